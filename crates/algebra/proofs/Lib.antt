@@ -1,0 +1,5 @@
+pub mod Passing
+pub mod Signs
+pub mod Table
+pub mod Standing
+pub mod Sets

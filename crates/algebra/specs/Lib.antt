@@ -1,0 +1,4 @@
+pub mod Points
+pub mod Placements
+pub mod Titles
+pub mod Rules

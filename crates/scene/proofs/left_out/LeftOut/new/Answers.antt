@@ -1,0 +1,24 @@
+use mathlib.Core.Bool.{Bool, false}
+use Prim.Native.Nat.{ℕ}
+use lib.ListN.{getD}
+use Rattle.scene.specs.Marks.{marked, low}
+use Rattle.scene.proofs.Marking.{ranked-as, open-as, turn-as}
+use Rattle.scene.proofs.RowByRow.{is-true}
+use Rattle.scene.proofs.left_out.LeftOut.new.Needs as need
+
+pub ghost-result : need.ghost-result
+ghost-result g c =
+    let marks = c .args .marks .now in
+    let hit : ℕ → Bool = λ k. getD (c .in-Continue-table .table) k false in
+    let told = c .in-Continue-table .ensures tt in
+    let found = c .find-remaining .ensures in
+    let r = c .find-remaining .result in (
+      is-true (low marks) (told .0 .0),
+      (
+        ranked-as hit (marked marks) (told .1) (r .ranks) 4096 (found .ranked),
+        (
+          open-as hit (marked marks) (told .1) (r .positions) 4096 (found .«open»),
+          (turn-as hit (marked marks) (told .1) (r .positions) 4096 (found .sequence), tt),
+        ),
+      ),
+    )

@@ -1,0 +1,42 @@
+// The writer of house tables.
+ghost use mathlib.Core.Path.{_≡_};
+ghost use lib.ListN.{length, take};
+ghost use Rattle.std.specs.Results.{Cases};
+ghost use Rattle.scene.specs.Checks.{Answers};
+ghost use Rattle.table.specs.Readings.{Reads, found};
+ghost use Rattle.table.specs.Writings.{written, over, writing};
+use crate::commands::END;
+use crate::commands::ROW;
+use crate::commands::START;
+use scene::refusals::Refusal;
+use scene::sources::Source;
+
+// The most rows in a table.
+pub const MOST_ROWS: usize = 4096;
+
+// Writes any source as a table at the start of the list, and answers how many bytes it took.
+pub fn write_table<S: Source>(source: &S, out: &mut [u8]) -> Result<usize, Refusal>
+    ensures size { λ r. ⌜ Answers (writing (S·Source .scene (now (source .entry)) .rows) (length (now (out .entry)))) (λ n. n ≡ length (written (S·Source .scene (now (source .entry)) .moments) (S·Source .scene (now (source .entry)) .rows))) r ⌝ }
+    ensures bytes { λ r. ⌜ Cases r (λ _. now (out .exit) ≡ over (written (S·Source .scene (now (source .entry)) .moments) (S·Source .scene (now (source .entry)) .rows)) (now (out .entry))) (λ _. now (out .exit) ≡ now (out .entry)) ⌝ }
+    ensures back { λ r. ⌜ Cases r (λ n. Reads (take n (now (out .exit))) (found (S·Source .scene (now (source .entry)) .moments) (S·Source .scene (now (source .entry)) .rows))) (λ _. Unit {0}) ⌝ }
+{
+    let count = source.count();
+    if count > MOST_ROWS {
+        return Err(Refusal::TooManyRows);
+    }
+    let size = 3 + 4 * count;
+    if out.len() < size {
+        return Err(Refusal::ListTooShort);
+    }
+    out[0] = START;
+    out[1] = (source.moments() - 1) as u8;
+    for i in 0..count {
+        let Some((left, set, right)) = source.row(i) else {
+            unreachable()
+        };
+        let at = 2 + 4 * i;
+        out[at..at + 4].copy_from_slice(&[ROW, left as u8, set, right as u8]);
+    }
+    out[size - 1] = END;
+    Ok(size)
+}
