@@ -7,25 +7,37 @@ use Prim.Native.Nat.{ℕ, zero, suc, _+_, _-_, _<_, _≤_}
 use native.Mathlib.Omega.{arith}
 use lib.Dec.{eqb, leb}
 use lib.ListN.{length, getD, set, replicate}
-use Rattle.std.proofs.shelf.Lists.{getD-set-same, getD-set-other, getD-replicate, length-replicate, length-set}
+use Rattle.std.proofs.shelf.Lists.{getD-set-same, getD-set-other, getD-past, getD-replicate, length-replicate, length-set}
 use Rattle.std.proofs.shelf.Maps.{nth-past}
-use Rattle.std.proofs.shelf.Tests.{and-parts, and-from, and-left, and-right, or-from, cases-eq, leb-true, le-leb, lt-leb, ne-eqb}
+use Rattle.std.proofs.shelf.Tests.{and-parts, and-from, and-left, and-right, or-from, or-right, cases-lt, cases-eq, eq-eqb, leb-true, le-leb, lt-leb, ne-eqb}
 use Rattle.std.specs.declared.option.Option.the-variants.{Some, None}
 use Rattle.std.specs.shelf.Maps.{nth}
 use Rattle.algebra.specs.Placements.{Row}
 use Rattle.scene.specs.Marks.{marked, low, without-from, without, tally, missed, unmarked, Ranked, Open, InTurn, length-without}
 
-or-last : (b : Bool) → (b || false) ≡ (false || b)
-or-last true = refl
-or-last false = refl
-
 or-group : (a b c : Bool) → (a || (b || c)) ≡ ((a || b) || c)
 or-group true b c = refl
 or-group false b c = refl
 
+or-false : (b : Bool) → (b || false) ≡ b
+or-false true = refl
+or-false false = refl
+
+-- a table of marks with one more
+pub set-marks : (table : List Bool) (m k : ℕ) → m < length table → getD (set table m true) k false ≡ (getD table k false || eqb m k)
+set-marks table m k l =
+    ⊎-elim
+    (λ (e : k ≡ m). ap (λ j. getD (set table m true) j false) e ∙ getD-set-same table m true false l ∙ sym (or-right (getD table k false) (eqb m k) (eq-eqb m k (sym e))))
+    (λ (ne : k ≡ m → ⊥). getD-set-other table m k true false ne ∙ sym (ap (λ t. getD table k false || t) (ne-eqb m k (λ e. ne (sym e))) ∙ or-false (getD table k false)))
+    (cases-eq k m)
+
+-- no mark
+pub no-marks : (n k : ℕ) → getD (replicate n false) k false ≡ false
+no-marks n k = ⊎-elim (λ h. getD-replicate n k false false h) (λ h. getD-past (replicate n false) k false (omega (arith, length-replicate n false))) (cases-lt k n)
+
 -- one more mark
 pub marked-push : (ms : List ℕ) (m k : ℕ) → marked (ms ++ m ∷ []) k ≡ (marked ms k || eqb m k)
-marked-push [] m k = or-last (eqb m k)
+marked-push [] m k = or-false (eqb m k)
 marked-push (n ∷ ms) m k = ap (λ b. eqb n k || b) (marked-push ms m k) ∙ or-group (eqb n k) (marked ms k) (eqb m k)
 
 pub low-push : (ms : List ℕ) (m : ℕ) → low ms ≡ true → m ≤ 4095 → low (ms ++ m ∷ []) ≡ true

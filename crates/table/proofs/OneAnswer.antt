@@ -87,8 +87,8 @@ module _ (n : ℕ) where
       let f = sym (append-assoc (encoding k) (joined encoding ks) xs) ∙ e ∙ append-assoc (encoding l) (joined encoding ls) ys in
       let first = same-command k l (joined encoding ks ++ xs) (joined encoding ls ++ ys) f in
       let later = same-place (done ++ k ∷ []) ks ls p q xs ys a b (first .1) (h .1) (subst (λ x. Stand n (done ++ x ∷ []) ls) (sym (first .0)) (i .1))
-              (subst (λ ms. Stops n ms p xs a) (sym (append-assoc done (k ∷ []) ks)) s)
-              (subst (λ ms. Stops n ms q ys b) (ap (λ x. done ++ x ∷ ls) (sym (first .0)) ∙ sym (append-assoc done (k ∷ []) ls)) t) in
+      (subst (λ ms. Stops n ms p xs a) (sym (append-assoc done (k ∷ []) ks)) s)
+      (subst (λ ms. Stops n ms q ys b) (ap (λ x. done ++ x ∷ ls) (sym (first .0)) ∙ sym (append-assoc done (k ∷ []) ls)) t) in
       ((λ j. first .0 j ∷ later .0 j), later .1)
 
 -- bytes have one answer

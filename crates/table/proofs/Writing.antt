@@ -95,11 +95,11 @@ reads-back n rows law few =
     let e : c + 1 ≡ n = omega (arith, law .some) in
     let ks = map row-command rows in
     let same : closed (c + 1) ks (length (encoded c ks) + 1) [] ≡ found n rows =
-            cond-true (leb (length (joined stated ks)) 4096) _ _ (le-leb (length (joined stated ks)) 4096 (omega (arith, ap length (stated-rows rows))))
-            ∙ (λ j. found (e j) (stated-rows rows j)) in
+    cond-true (leb (length (joined stated ks)) 4096) _ _ (le-leb (length (joined stated ks)) 4096 (omega (arith, ap length (stated-rows rows))))
+    ∙ (λ j. found (e j) (stated-rows rows j)) in
     let begun : Begun (written n rows) c ks (0x00 ∷ []) = record {
-            short = omega (arith, written-size c rows (length rows) refl);
-            cut = refl;
-            stand = subst (λ m. Stand m [] ks) (sym e) (stand-rows n [] rows (law .own))
-          } in
+      short = omega (arith, written-size c rows (length rows) refl);
+      cut = refl;
+      stand = subst (λ m. Stand m [] ks) (sym e) (stand-rows n [] rows (law .own));
+    } in
     subst (Reads (written n rows)) same (stopped c ks (0x00 ∷ []) begun (ended [] refl))

@@ -14,9 +14,13 @@ pub enum Command {
 }
 
 pub const START: u8 = 0x10;
+
 pub const END: u8 = 0x00;
+
 pub const ROW: u8 = 0x01;
+
 const RULE: u8 = 0x02;
+
 const TITLE: u8 = 0x03;
 
 impl Command {
@@ -36,13 +40,22 @@ impl Command {
         ensures { λ r. ⌜ Cases r (NoCommand (now (bytes .entry))) (Begins (now (bytes .entry))) ⌝ }
     {
         if let [ROW, left, set, right, ..] = bytes {
-            return Some(Command::Row { left: *left, set: *set, right: *right });
+            return Some(Command::Row {
+                left: *left,
+                set: *set,
+                right: *right,
+            });
         }
         if let [TITLE, title, ..] = bytes {
             return Some(Command::Title { title: *title });
         }
         if let [RULE, from, high, low, to, ..] = bytes {
-            return Some(Command::Rule { from: *from, high: *high, low: *low, to: *to });
+            return Some(Command::Rule {
+                from: *from,
+                high: *high,
+                low: *low,
+                to: *to,
+            });
         }
         None
     }

@@ -28,7 +28,11 @@ fn has_title(moments: u16, title: u8) -> bool
 }
 
 // The rows of a command over so many moments, where the titles that earlier commands declared are marked.
-pub(crate) fn rows_stated(moments: u16, known: &[bool; 256], command: Command) -> Result<Statement, Refusal>
+pub(crate) fn rows_stated(
+    moments: u16,
+    known: &[bool; 256],
+    command: Command,
+) -> Result<Statement, Refusal>
     ensures { λ r. ⌜ Answers (of-command moments (λ t. getD (now (known .entry)) t false) command) (λ s. rowsIn s ≡ stated command) r ⌝ }
 {
     match command {
@@ -46,9 +50,18 @@ pub(crate) fn rows_stated(moments: u16, known: &[bool; 256], command: Command) -
             let rise = 2 * u16::from(title);
             Ok(Statement::One((rise, 1, rise + 1)))
         }
-        Command::Rule { from, high, low, to } => {
+        Command::Rule {
+            from,
+            high,
+            low,
+            to,
+        } => {
             let set = 256 * u16::from(high) + u16::from(low);
-            if set < 1 || set > ALL_RELATIONS || !has_title(moments, from) || !has_title(moments, to) {
+            if set < 1
+                || set > ALL_RELATIONS
+                || !has_title(moments, from)
+                || !has_title(moments, to)
+            {
                 return Err(Refusal::OperandOutOfRange);
             }
             if !known[from as usize] || !known[to as usize] {

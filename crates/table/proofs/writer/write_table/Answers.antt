@@ -58,13 +58,13 @@ returns g c =
     let done : c .loop-i .i ≡ n = omega arith in
     let start = set (set xs 0 16) 1 (c .moments .result - 1) in
     let inv : c .loop-i .out ≡ encoded (s .moments - 1) (map row-command (s .rows)) ++ drop (2 + 4 * n) start =
-            c .loop-i .inv ∙ (λ j. encoded (s .moments - 1) (map row-command (take (done j) (s .rows))) ++ drop (2 + 4 * done j) start)
-            ∙ ap (λ rs. encoded (s .moments - 1) (map row-command rs) ++ drop (2 + 4 * n) start) (take-all n (s .rows) (omega arith)) in
+    c .loop-i .inv ∙ (λ j. encoded (s .moments - 1) (map row-command (take (done j) (s .rows))) ++ drop (2 + 4 * done j) start)
+    ∙ ap (λ rs. encoded (s .moments - 1) (map row-command rs) ++ drop (2 + 4 * n) start) (take-all n (s .rows) (omega arith)) in
     let size = written-size (s .moments - 1) (s .rows) n count in
     let exit = end-put (s .moments - 1) (s .rows) start (c .loop-i .out) xs n count (omega arith) (header-leaves xs 16 (c .moments .result - 1) (2 + 4 * n) (omega arith)) inv in
     record {
       size = (((λ h. omega arith), ((λ h. omega arith), tt)), size);
       bytes = exit;
       back = subst (λ bs. Reads bs (found (s .moments) (s .rows))) (sym (ap (take (3 + 4 * n)) exit ∙ take-at (written (s .moments) (s .rows)) _ (3 + 4 * n) (sym size)))
-            (reads-back (s .moments) (s .rows) (s .lawful) (omega arith))
+          (reads-back (s .moments) (s .rows) (s .lawful) (omega arith));
     }
