@@ -32,3 +32,9 @@ nth-take (suc n) (x ∷ xs) (suc k) h = nth-take n xs k (omega arith)
 pub got-nth : {X : Type 0} (xs : List X) (k : ℕ) (r : Option (RefT X)) → Item xs k k r → mapped now r ≡ nth xs k
 got-nth xs k None found = sym (nth-past xs k (found .3))
 got-nth xs k (Some x) found = ap Some (found .3 .1 (x .now)) ∙ sym (nth-getD xs k (x .now) (found .3 .0))
+
+-- a row stands at each position below the end
+pub nth-there : {X : Type 0} (xs : List X) (k : ℕ) → k < length xs → None ≡ nth xs k → ⊥
+nth-there [] k l e = omega arith
+nth-there (x ∷ xs) zero l e = let z : _≡_ {A = ℕ} 0 1 = cc in omega arith
+nth-there (x ∷ xs) (suc k) l e = nth-there xs k (omega arith) e

@@ -4,23 +4,18 @@ use Prim.Native.Nat.{ℕ, _+_, _-_, _*_, _<_, _≤_}
 use native.Mathlib.Omega.{arith}
 use lib.ListN.{length, getD, set, take, drop}
 use Rattle.std.proofs.shelf.Lists.{take-all, take-at}
-use Rattle.std.proofs.shelf.Maps.{nth-getD}
-use Rattle.std.specs.declared.option.Option.the-variants.{Some, None}
-use Rattle.std.specs.shelf.Maps.{nth}
 use Rattle.algebra.specs.Placements.{Row}
 use Rattle.scene.proofs.Owned.{own-row}
+use Rattle.scene.proofs.Positions.{nth-there}
 use Rattle.table.specs.Commands.{encoded}
 use Rattle.table.specs.Readings.{Reads, found}
 use Rattle.table.specs.Writings.{row-command, written}
 use Rattle.table.proofs.Writing.{row-turn, end-put, written-size, header-put, header-leaves, reads-back}
 use Rattle.table.proofs.writer.write_table.Needs as need
 
-none-there : (rows : List Row) (i : ℕ) → i < length rows → None ≡ nth rows i → ⊥
-none-there rows i l e = let h = nth-getD rows i (0, 0, 0) l in let z : _≡_ {A = ℕ} 0 1 = cc in omega arith
-
 pub unreachable-requires : need.unreachable-requires
 unreachable-requires g c κs =
-    none-there (g .S·Source .scene (c .args .source .now) .rows) (c .loop-i .i) (omega (arith, c .count-count .ensures)) (sym (c .in-rest .is) ∙ c .row .ensures)
+    nth-there (g .S·Source .scene (c .args .source .now) .rows) (c .loop-i .i) (omega (arith, c .count-count .ensures)) (sym (c .in-rest .is) ∙ c .row .ensures)
 
 pub loop-i-holds : need.loop-i-holds
 loop-i-holds g c =

@@ -1,0 +1,3 @@
+// The text that the programs print.
+pub mod rows;
+pub mod tables;
