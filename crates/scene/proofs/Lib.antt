@@ -1,5 +1,5 @@
 pub mod Positions
-pub mod Piles
+pub mod Pile
 pub mod RowByRow
 pub mod Marking
 pub mod Owned

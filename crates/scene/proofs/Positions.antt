@@ -4,12 +4,7 @@ use mathlib.Core.List.{List, [], _∷_, _++_}
 use Prim.Native.Nat.{ℕ, zero, suc, _-_, _<_, _≤_}
 use native.Mathlib.Omega.{arith}
 use lib.ListN.{length, take}
-use denote.Ref.{RefT, now}
-use Rattle.std.proofs.shelf.Maps.{nth-getD, nth-past}
-use Rattle.std.specs.Options.{mapped}
-use Rattle.std.specs.Places.{Item}
-use Rattle.std.specs.declared.option.Option.{Option}
-use Rattle.std.specs.declared.option.Option.the-variants.{Some, None}
+use Rattle.std.specs.declared.option.Option.the-variants.{None}
 use Rattle.std.specs.shelf.Maps.{nth}
 
 pub nth-append-left : {X : Type 0} (xs ys : List X) (k : ℕ) → k < length xs → nth (xs ++ ys) k ≡ nth xs k
@@ -27,11 +22,6 @@ nth-take zero xs k h = absurd (omega arith)
 nth-take (suc n) [] k h = refl
 nth-take (suc n) (x ∷ xs) zero h = refl
 nth-take (suc n) (x ∷ xs) (suc k) h = nth-take n xs k (omega arith)
-
--- what `get` of a slice finds, copied
-pub got-nth : {X : Type 0} (xs : List X) (k : ℕ) (r : Option (RefT X)) → Item xs k k r → mapped now r ≡ nth xs k
-got-nth xs k None found = sym (nth-past xs k (found .3))
-got-nth xs k (Some x) found = ap Some (found .3 .1 (x .now)) ∙ sym (nth-getD xs k (x .now) (found .3 .0))
 
 -- a row stands at each position below the end
 pub nth-there : {X : Type 0} (xs : List X) (k : ℕ) → k < length xs → None ≡ nth xs k → ⊥

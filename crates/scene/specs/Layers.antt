@@ -3,13 +3,15 @@ use mathlib.Core.Path.{_≡_}
 use mathlib.Core.Bool.{true, false}
 use mathlib.Core.List.{List, [], _∷_, _++_}
 use mathlib.Core.Logic.{_⊎_}
-use Prim.Native.Nat.{ℕ, _+_, _<_, _≤_, max}
+use Prim.Native.Nat.{ℕ, _+_, _-_, _<_, _≤_, max}
 use native.Mathlib.Omega.{arith}
 use lib.ListN.{length, take}
 use Rattle.std.proofs.shelf.Lists.{length-take}
 use Rattle.algebra.specs.Placements.{Row}
 use Rattle.scene.specs.declared.refusals.Refusal.{Refusal}
 use Rattle.scene.specs.declared.refusals.Refusal.the-variants.{OutsideScene, SetOutOfRange, TooManyRows, NoSuchRow}
+use Rattle.scene.specs.declared.piles.Standing.{Standing}
+use Rattle.scene.specs.declared.piles.Standing.the-variants.{Below, Above, Past}
 use Rattle.scene.specs.Checks.{Check}
 use Rattle.scene.specs.Laws.{fit-more, fit-append, fit-take}
 use Rattle.scene.specs.Marks.{low, without, fit-without, length-without}
@@ -22,6 +24,12 @@ Piled below n more s = (s .moments ≡ max (below .moments) n) × (s .rows ≡ b
 -- a layer answers at most the first 8,192 of these
 abbrev pub pile : List Row → List Row → List Row
 pile rs ss = take 8192 (rs ++ ss)
+
+-- where a position of the pile stands
+abbrev pub StandsAt : ℕ → ℕ → Standing → Type 0
+StandsAt k below (Below j) = (k < below) × (j ≡ k)
+StandsAt k below (Above j) = (below ≤ k) × (k < 8192) × (j ≡ k - below)
+StandsAt k below Past = 8192 ≤ k
 
 -- rows that fit n moments, piled on those of a scene
 pub piled : (s : Scene) (n : ℕ) (more : List Row) → n ≤ 256 → all-fit n more ≡ true → Lawful (max (s .moments) n) (pile (s .rows) more)
@@ -51,11 +59,11 @@ row-by-row n [] = []
 row-by-row n (r ∷ rs) = of-row n r ++ row-by-row n rs
 
 -- what is checked of their number
-abbrev pub of-count : Scene → List Row → List (Check Refusal)
-of-count s more = (TooManyRows, (6 < length more) ⊎ (8192 < length (s .rows) + length more)) ∷ []
+abbrev pub of-count : ℕ → ℕ → List (Check Refusal)
+of-count below more = (TooManyRows, (6 < more) ⊎ (8192 < below + more)) ∷ []
 
 abbrev pub adding : Scene → List Row → List (Check Refusal)
-adding s more = row-by-row (s .moments) more ++ of-count s more
+adding s more = row-by-row (s .moments) more ++ of-count (length (s .rows)) (length more)
 
 abbrev pub joining : Scene → Scene → List (Check Refusal)
 joining a b = (TooManyRows, 8192 < length (a .rows) + length (b .rows)) ∷ []

@@ -5,10 +5,13 @@ ghost use mathlib.Core.Path.{_≡_};
 ghost use Prim.Native.Nat.{_≤_};
 ghost use lib.ListN.{length};
 ghost use Rattle.scene.specs.Checks.{Answers};
-ghost use Rattle.scene.specs.Layers.{Piled, added, adding, of-row};
+ghost use Rattle.scene.specs.Layers.{Piled, added, adding, of-row, of-count};
 ghost use Rattle.scene.specs.Scenes.{all-fit};
+use crate::piles::Standing;
+use crate::piles::check_pile;
+use crate::piles::find_standing;
+use crate::piles::pile_count;
 use crate::refusals::Refusal;
-use crate::sources::MOST_ROWS;
 use crate::sources::Row;
 use crate::sources::Source;
 use crate::sources::row_in;
@@ -50,6 +53,17 @@ pub fn check_row(row: Row, moments: u16) -> Result<(), Refusal>
     Ok(())
 }
 
+// Whether so many rows may be added to so many below.
+fn check_count(below: usize, more: usize) -> Result<(), Refusal>
+    requires { ⌜ below ≤ 8192 ⌝ }
+    ensures { λ r. ⌜ Answers (of-count below more) (λ _. Unit {0}) r ⌝ }
+{
+    if more > MOST_ADDED {
+        return Err(Refusal::TooManyRows);
+    }
+    check_pile(below, more)
+}
+
 impl<'a, S: Source> Added<'a, S> {
     // Each row is checked in turn, then how many there are.
     pub fn new(below: &'a S, more: &'a [Row]) -> Result<Added<'a, S>, Refusal>
@@ -59,12 +73,7 @@ impl<'a, S: Source> Added<'a, S> {
         for row in more {
             check_row(*row, moments)?;
         }
-        if more.len() > MOST_ADDED {
-            return Err(Refusal::TooManyRows);
-        }
-        if below.count() + more.len() > MOST_ROWS {
-            return Err(Refusal::TooManyRows);
-        }
+        check_count(below.count(), more.len())?;
         Ok(Added {
             below,
             more,
@@ -81,17 +90,14 @@ pub impl<'a, S: Source> Source for Added<'a, S> as AddedSource {
     }
 
     fn count(&self) -> usize {
-        (self.below.count() + self.more.len()).min(MOST_ROWS)
+        pile_count(self.below.count(), self.more.len())
     }
 
     fn row(&self, position: usize) -> Option<Row> {
-        let before = self.below.count();
-        if position < before {
-            self.below.row(position)
-        } else if position < MOST_ROWS {
-            row_in(self.more, position - before)
-        } else {
-            None
+        match find_standing(position, self.below.count()) {
+            Standing::Below(position) => self.below.row(position),
+            Standing::Above(position) => row_in(self.more, position),
+            Standing::Past => None,
         }
     }
 }

@@ -2,8 +2,11 @@
 ghost use denote.Ref.{now};
 ghost use Rattle.scene.specs.Checks.{Answers};
 ghost use Rattle.scene.specs.Layers.{Piled, joined, joining};
+use crate::piles::Standing;
+use crate::piles::check_pile;
+use crate::piles::find_standing;
+use crate::piles::pile_count;
 use crate::refusals::Refusal;
-use crate::sources::MOST_ROWS;
 use crate::sources::Row;
 use crate::sources::Source;
 
@@ -26,9 +29,7 @@ impl<'a, S: Source, T: Source> Joined<'a, S, T> {
     pub fn new(first: &'a S, second: &'a T) -> Result<Joined<'a, S, T>, Refusal>
         ensures { λ r. ⌜ Answers (joining (S·Source .scene (now (first .entry))) (T·Source .scene (now (second .entry)))) (λ j. Piled (S·Source .scene (now (first .entry))) (T·Source .scene (now (second .entry)) .moments) (T·Source .scene (now (second .entry)) .rows) (joined (S·Source .scene (now (j .first))) (T·Source .scene (now (j .second))))) r ⌝ }
     {
-        if first.count() + second.count() > MOST_ROWS {
-            return Err(Refusal::TooManyRows);
-        }
+        check_pile(first.count(), second.count())?;
         Ok(Joined { first, second })
     }
 }
@@ -41,17 +42,14 @@ pub impl<'a, S: Source, T: Source> Source for Joined<'a, S, T> as JoinedSource {
     }
 
     fn count(&self) -> usize {
-        (self.first.count() + self.second.count()).min(MOST_ROWS)
+        pile_count(self.first.count(), self.second.count())
     }
 
     fn row(&self, position: usize) -> Option<Row> {
-        let before = self.first.count();
-        if position < before {
-            self.first.row(position)
-        } else if position < MOST_ROWS {
-            self.second.row(position - before)
-        } else {
-            None
+        match find_standing(position, self.first.count()) {
+            Standing::Below(position) => self.first.row(position),
+            Standing::Above(position) => self.second.row(position),
+            Standing::Past => None,
         }
     }
 }

@@ -1,8 +1,11 @@
 // A source without some of its rows.
 ghost use denote.Ref.{now};
 ghost use mathlib.Core.Bool.{true, false};
+ghost use mathlib.Core.List.{[], _∷_};
 ghost use mathlib.Core.Path.{_≡_};
-ghost use Prim.Native.Nat.{ℕ};
+ghost use Prim.Native.Nat.{ℕ, _<_, _≤_};
+ghost use Rattle.std.specs.Options.{Cases};
+ghost use Rattle.scene.specs.declared.refusals.Refusal.the-variants.{NoSuchRow};
 ghost use lib.ListN.{getD};
 ghost use Rattle.scene.specs.Checks.{Answers};
 ghost use Rattle.scene.specs.Layers.{LeavesOut, left-out, leaving-out};
@@ -25,6 +28,7 @@ pub struct LeftOut<'a, S> {
     ghost markable: { low (now marks) ≡ true },
     ghost ranked: { Ranked (marked (now marks)) ranks 4096 },
     ghost open: { Open (marked (now marks)) positions (unmarked (now marks) 4096) },
+    ghost bounded: { unmarked (now marks) 4096 ≤ 4096 },
     ghost sequence: { InTurn (marked (now marks)) positions (unmarked (now marks) 4096) },
 }
 
@@ -39,15 +43,23 @@ impl<S> Drop for LeftOut<'_, S> {
     }
 }
 
+// Whether a position may be marked.
+fn check_mark(mark: u16) -> Result<(), Refusal>
+    ensures { λ r. ⌜ Answers ((NoSuchRow, 4095 < mark) ∷ []) (λ _. Unit {0}) r ⌝ }
+{
+    if mark as usize >= MARKABLE {
+        return Err(Refusal::NoSuchRow);
+    }
+    Ok(())
+}
+
 // Which positions are marked.
 fn mark_table(marks: &[u16]) -> Result<[bool; 4096], Refusal>
     ensures { λ r. ⌜ Answers (leaving-out (now (marks .entry))) (λ table. (k : ℕ) → getD table k false ≡ marked (now (marks .entry)) k) r ⌝ }
 {
     let mut table = [false; 4096];
     for mark in marks {
-        if *mark as usize >= MARKABLE {
-            return Err(Refusal::NoSuchRow);
-        }
+        check_mark(*mark)?;
         table[*mark as usize] = true;
     }
     Ok(table)
@@ -77,6 +89,27 @@ fn find_remaining(table: &[bool; 4096]) -> Remaining
     Remaining { positions, ranks }
 }
 
+impl<S> LeftOut<'_, S> {
+    // How many positions remain below a position up to the first that cannot be marked.
+    fn rank(&self, position: usize) -> usize
+        requires { ⌜ position ≤ 4096 ⌝ }
+        ensures { λ r. ⌜ r ≡ unmarked (now (now (self .entry) .marks)) position ⌝ }
+    {
+        self.ranks[position] as usize
+    }
+
+    // The markable position that stands behind so many that remain, if there is one.
+    fn kept_position(&self, before: usize) -> Option<usize>
+        ensures { λ r. ⌜ Cases r (unmarked (now (now (self .entry) .marks)) 4096 ≤ before) (λ p. (marked (now (now (self .entry) .marks)) p ≡ false) × (unmarked (now (now (self .entry) .marks)) p ≡ before)) ⌝ }
+    {
+        if before < self.rank(MARKABLE) {
+            Some(self.positions[before] as usize)
+        } else {
+            None
+        }
+    }
+}
+
 impl<'a, S: Source> LeftOut<'a, S> {
     // Marks may come in any sequence and more than once; one past the end leaves nothing out.
     pub fn new(below: &'a S, marks: &'a [u16]) -> Result<LeftOut<'a, S>, Refusal>
@@ -103,20 +136,19 @@ pub impl<'a, S: Source> Source for LeftOut<'a, S> as LeftOutSource {
     fn count(&self) -> usize {
         let below = self.below.count();
         if below <= MARKABLE {
-            self.ranks[below] as usize
+            self.rank(below)
         } else {
-            self.ranks[MARKABLE] as usize + (below - MARKABLE)
+            self.rank(MARKABLE) + (below - MARKABLE)
         }
     }
 
     fn row(&self, position: usize) -> Option<Row> {
-        let kept = self.ranks[MARKABLE] as usize;
-        if position < kept {
-            self.below.row(self.positions[position] as usize)
-        } else if position < MOST_ROWS {
-            self.below.row(MARKABLE + (position - kept))
-        } else {
-            None
+        if position >= MOST_ROWS {
+            return None;
+        }
+        match self.kept_position(position) {
+            Some(below) => self.below.row(below),
+            None => self.below.row(MARKABLE + (position - self.rank(MARKABLE))),
         }
     }
 }

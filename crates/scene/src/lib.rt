@@ -2,5 +2,6 @@
 pub mod added;
 pub mod joined;
 pub mod left_out;
+mod piles;
 pub mod refusals;
 pub mod sources;

@@ -30,5 +30,9 @@ pub trait Source {
 pub fn row_in(rows: &[Row], position: usize) -> Option<Row>
     ensures { λ r. ⌜ r ≡ nth (now (rows .entry)) position ⌝ }
 {
-    rows.get(position).copied()
+    if position < rows.len() {
+        Some(rows[position])
+    } else {
+        None
+    }
 }

@@ -4,14 +4,14 @@ use mathlib.Core.List.{List, [], _∷_, _++_}
 use mathlib.Core.Logic.{_⊎_, inl, inr}
 use Prim.Native.Nat.{ℕ, _+_, _<_, _≤_}
 use native.Mathlib.Omega.{arith}
-use lib.ListN.{length}
-use Rattle.std.proofs.shelf.Lists.{append-assoc, append-nil}
+use lib.ListN.{length, drop}
+use Rattle.std.proofs.shelf.Lists.{append-assoc, append-nil, drop-at}
 use Rattle.std.specs.shelf.Lists.{joined}
 use Rattle.scene.specs.declared.refusals.Refusal.{Refusal}
 use Rattle.scene.specs.Checks.{Check, First, Clear}
 use Rattle.table.specs.declared.commands.Command.{Command}
 use Rattle.table.specs.declared.commands.Command.the-variants.{Row as row, Title as title, Rule as rule}
-use Rattle.table.specs.Commands.{encoding, encoded, declared, of-command, Stand}
+use Rattle.table.specs.Commands.{encoding, encoded, Begins, declared, of-command, Stand}
 use Rattle.table.specs.Readings.{Answer, found, refused, Begun, closed, Stops, malformed, struck, ended, Reads, too-long, no-start, stopped, Only}
 
 -- the first check that strikes is one
@@ -48,10 +48,14 @@ not-end (row a s b) xs ys e = apart 1 0 _ _ (λ h. omega arith) e
 not-end (title t) xs ys e = apart 3 0 _ _ (λ h. omega arith) e
 not-end (rule t h l u) xs ys e = apart 2 0 _ _ (λ h. omega arith) e
 
+begins-from : (bytes : List ℕ) (k : Command) (more : List ℕ) → bytes ≡ encoding k ++ more → Begins bytes k
+begins-from bytes k more e =
+    e ∙ ap (λ zs. encoding k ++ zs) (sym (ap (drop (length (encoding k))) e ∙ drop-at (encoding k) more (length (encoding k)) refl))
+
 -- a command that stands does not stop the reading
 goes-on : (n : ℕ) (ks : List Command) (place : ℕ) (rest : List ℕ) (a : Answer) (k : Command) (more : List ℕ)
     → Stops n ks place rest a → Clear (of-command n (declared ks) k) → rest ≡ encoding k ++ more → ⊥
-goes-on n ks place rest a k more (malformed none other) h e = none k (more, e)
+goes-on n ks place rest a k more (malformed none other) h e = none k (begins-from rest k more e)
 goes-on n ks place rest a k more (struck l xs {r = r} is f) h e =
     let s = same-command l k xs more (sym is ∙ e) in
     not-first (of-command n (declared ks) k) r h (subst (λ x. First (of-command n (declared ks) x) r) (s .0) f)
@@ -60,9 +64,9 @@ goes-on n ks place rest a k more (ended xs is) h e = not-end k more xs (sym e �
 -- what follows the same commands gives one answer
 same-stop : (n : ℕ) (ks : List Command) (place : ℕ) (rest : List ℕ) (a b : Answer) → Stops n ks place rest a → Stops n ks place rest b → a ≡ b
 same-stop n ks place rest a b (malformed none other) (malformed none′ other′) = refl
-same-stop n ks place rest a b (malformed none other) (struck l ys is g) = absurd (none l (ys, is))
+same-stop n ks place rest a b (malformed none other) (struck l ys is g) = absurd (none l (begins-from rest l ys is))
 same-stop n ks place rest a b (malformed none other) (ended ys is) = absurd (other ys is)
-same-stop n ks place rest a b (struck k xs is f) (malformed none other) = absurd (none k (xs, is))
+same-stop n ks place rest a b (struck k xs is f) (malformed none other) = absurd (none k (begins-from rest k xs is))
 same-stop n ks place rest a b (struck k xs {r = r} is f) (struck l ys {r = t} is′ g) =
     let s = same-command k l xs ys (sym is ∙ is′) in
     ap (λ x. refused x place) (first-same (of-command n (declared ks) l) r t (subst (λ x. First (of-command n (declared ks) x) r) (s .0) f) g)

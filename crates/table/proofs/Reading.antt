@@ -60,7 +60,7 @@ module _ (bytes : List ℕ) (c place : ℕ) (known : List Bool) (rows : List Row
   refused-here r f =
       let same : (λ t. getD known t false) ≡ declared ks = (λ j t. p .marks t j) in
       subst (λ at. Reads bytes (refused r at)) (sym (p .at))
-      (stopped c ks (drop place bytes) (p .begun) (struck k (b .0) (b .1) (subst (λ d. First (of-command (c + 1) d k) r) same f)))
+      (stopped c ks (drop place bytes) (p .begun) (struck k (drop (length (encoding k)) (drop place bytes)) b (subst (λ d. First (of-command (c + 1) d k) r) same f)))
 
   -- it stands
   pub progress-more : (known′ : List Bool) (rows′ : List Row) → Clear (of-command (c + 1) (λ t. getD known t false) k)
@@ -68,16 +68,15 @@ module _ (bytes : List ℕ) (c place : ℕ) (known : List Bool) (rows : List Row
       → Progress bytes c (place + length (encoding k)) known′ rows′ (ks ++ k ∷ [])
   progress-more known′ rows′ h size marks add =
       let same : (λ t. getD known t false) ≡ declared ks = (λ j t. p .marks t j) in
-      let rest : drop (place + length (encoding k)) bytes ≡ b .0 =
-      sym (drop-drop (length (encoding k)) place bytes) ∙ ap (drop (length (encoding k))) (b .1) ∙ drop-at (encoding k) (b .0) (length (encoding k)) refl in
+      let rest : drop (place + length (encoding k)) bytes ≡ drop (length (encoding k)) (drop place bytes) = sym (drop-drop (length (encoding k)) place bytes) in
       let cut : bytes ≡ encoded c (ks ++ k ∷ []) ++ drop (place + length (encoding k)) bytes =
-      p .begun .cut ∙ ap (λ zs. encoded c ks ++ zs) (b .1 ∙ ap (λ zs. encoding k ++ zs) (sym rest))
+      p .begun .cut ∙ ap (λ zs. encoded c ks ++ zs) (b ∙ ap (λ zs. encoding k ++ zs) (sym rest))
       ∙ sym (append-assoc (encoded c ks) (encoding k) (drop (place + length (encoding k)) bytes))
       ∙ ap (λ zs. zs ++ drop (place + length (encoding k)) bytes) (joined-more encoding (16 ∷ c ∷ []) ks k) in
       record {
         begun = record { short = p .begun .short; cut = cut; stand = stand-push (c + 1) [] ks k (p .begun .stand) (subst (λ d. Clear (of-command (c + 1) d k)) same h) };
         at = ap (λ n. n + length (encoding k)) (p .at) ∙ sym (length-append (encoded c ks) (encoding k)) ∙ ap length (joined-more encoding (16 ∷ c ∷ []) ks k);
-        within = omega (arith, length-drop place bytes, ap length (b .1), length-append (encoding k) (b .0), p .within);
+        within = omega (arith, length-drop place bytes, ap length b, length-append (encoding k) (drop (length (encoding k)) (drop place bytes)), p .within);
         rows-are = add ∙ ap (λ rs. rs ++ stated k) (p .rows-are) ∙ joined-push stated ks k;
         marks = λ t. marks t ∙ ap (λ v. v || declares k t) (p .marks t) ∙ sym (declared-push ks k t);
         size = size;

@@ -4,6 +4,7 @@ use mathlib.Core.Bool.{Bool, true, false, _&&_, _||_}
 use mathlib.Core.List.{List, [], _∷_, _++_}
 use Prim.Native.Nat.{ℕ, _+_, _*_}
 use lib.Dec.{eqb, leb, ltb}
+use lib.ListN.{length, drop}
 use Rattle.std.specs.shelf.Lists.{joined}
 use Rattle.algebra.specs.Placements.{Row}
 use Rattle.algebra.specs.Rules.{pointisable, ruled}
@@ -26,7 +27,7 @@ encoded c ks = 0x10 ∷ c ∷ joined encoding ks
 
 -- the bytes begin with the command
 abbrev pub Begins : List ℕ → Command → Type 0
-Begins bytes k = (rest : List ℕ) × (bytes ≡ encoding k ++ rest)
+Begins bytes k = bytes ≡ encoding k ++ drop (length (encoding k)) bytes
 
 -- they begin with no whole command
 abbrev pub NoCommand : List ℕ → Type 0

@@ -22,6 +22,12 @@ written n rows = encoded (n - 1) (map row-command rows) ++ 0x00 ∷ []
 abbrev pub over : List ℕ → List ℕ → List ℕ
 over bytes xs = bytes ++ drop (length bytes) xs
 
--- what is checked of the rows and of the list's length
+-- what is checked of the rows, and of the list's length
+abbrev pub of-rows : List Row → List (Check Refusal)
+of-rows rows = (TooManyRows, 4096 < length rows) ∷ []
+
+abbrev pub of-room : ℕ → ℕ → List (Check Refusal)
+of-room rows room = (ListTooShort, room < 3 + 4 * rows) ∷ []
+
 abbrev pub writing : List Row → ℕ → List (Check Refusal)
-writing rows room = (TooManyRows, 4096 < length rows) ∷ (ListTooShort, room < 3 + 4 * length rows) ∷ []
+writing rows room = of-rows rows ++ of-room (length rows) room

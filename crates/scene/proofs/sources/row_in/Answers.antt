@@ -1,6 +1,10 @@
-use mathlib.Core.Path.{_∙_}
-use Rattle.scene.proofs.Positions.{got-nth}
+use mathlib.Core.Path.{sym}
+use native.Mathlib.Omega.{arith}
+use Rattle.std.proofs.shelf.Maps.{nth-getD, nth-past}
 use Rattle.scene.proofs.sources.row_in.Needs as need
 
-pub returns : need.returns
-returns c = c .copied .ensures ∙ got-nth (c .args .rows .now) (c .args .position) (c .get .result) (c .get .ensures .finds)
+pub returns-then-position-rows : need.returns-then-position-rows
+returns-then-position-rows c = sym (nth-getD (c .args .rows .now) (c .args .position) (0, 0, 0) (omega arith))
+
+pub returns-else-position-rows : need.returns-else-position-rows
+returns-else-position-rows c = sym (nth-past (c .args .rows .now) (c .args .position) (omega arith))

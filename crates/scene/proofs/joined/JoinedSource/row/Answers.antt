@@ -1,26 +1,24 @@
-use mathlib.Core.Path.{_∙_, ap, sym}
-use Prim.Native.Nat.{_-_}
+use mathlib.Core.Path.{_∙_, subst}
 use native.Mathlib.Omega.{arith}
-use Rattle.std.specs.shelf.Maps.{nth}
-use Rattle.scene.proofs.Piles.{pile-first, pile-second, pile-past}
+use lib.ListN.{length}
+use Rattle.scene.specs.declared.piles.Standing.the-variants.{Below, Above, Past}
+use Rattle.scene.specs.Layers.{StandsAt}
+use Rattle.scene.proofs.Pile.{pile-below, pile-above, pile-past}
 use Rattle.scene.proofs.joined.JoinedSource.row.Needs as need
 
-pub returns-then-position-before : need.returns-then-position-before
-returns-then-position-before g c =
-    let a = g .S·Source .scene (c .args .self .now .first .now) in
-    let b = g .T·Source .scene (c .args .self .now .second .now) in
-    let l = a .lawful in
-    c .row .ensures ∙ pile-first (a .rows) (b .rows) (c .args .position) (l .short) (omega arith)
+pub returns-in-Below : need.returns-in-Below
+returns-in-Below g c =
+    let s = g .S·Source .scene (c .args .self .now .first .now) in
+    let k = c .args .position in
+    let j = c .in-Below .position in
+    c .row .ensures ∙ pile-below (s .rows) (g .T·Source .scene (c .args .self .now .second .now) .rows) k j (s .lawful .short) (subst (λ n. StandsAt k n (Below j)) (c .count .ensures) (c .in-Below .ensures tt))
 
-pub returns-then-position-lt-MOST-ROWS : need.returns-then-position-lt-MOST-ROWS
-returns-then-position-lt-MOST-ROWS g c =
-    let a = g .S·Source .scene (c .args .self .now .first .now) in
-    let b = g .T·Source .scene (c .args .self .now .second .now) in
-    c .row-then-position-lt-MOST-ROWS .ensures ∙ ap (λ n. nth (b .rows) (c .args .position - n)) (c .count-before .ensures)
-    ∙ pile-second (a .rows) (b .rows) (c .args .position) (omega arith) (omega arith)
+pub returns-in-Above : need.returns-in-Above
+returns-in-Above g c =
+    let s = g .S·Source .scene (c .args .self .now .first .now) in
+    let k = c .args .position in
+    let j = c .in-Above .position in
+    c .row-in-Above .ensures ∙ pile-above (s .rows) (g .T·Source .scene (c .args .self .now .second .now) .rows) k j (subst (λ n. StandsAt k n (Above j)) (c .count .ensures) (c .in-Above .ensures tt))
 
-pub returns-else-position-lt-MOST-ROWS : need.returns-else-position-lt-MOST-ROWS
-returns-else-position-lt-MOST-ROWS g c =
-    let a = g .S·Source .scene (c .args .self .now .first .now) in
-    let b = g .T·Source .scene (c .args .self .now .second .now) in
-    pile-past (a .rows) (b .rows) (c .args .position) (omega arith)
+pub returns-in-Past : need.returns-in-Past
+returns-in-Past g c = pile-past (g .S·Source .scene (c .args .self .now .first .now) .rows) (g .T·Source .scene (c .args .self .now .second .now) .rows) (c .args .position) (c .in-Past .ensures tt)

@@ -2,7 +2,7 @@ use mathlib.Core.Bool.{Bool, false}
 use Prim.Native.Nat.{ℕ}
 use lib.ListN.{getD}
 use Rattle.scene.specs.Marks.{marked, low}
-use Rattle.scene.proofs.Marking.{ranked-as, open-as, turn-as}
+use Rattle.scene.proofs.Marking.{missed-le, ranked-as, open-as, turn-as}
 use Rattle.scene.proofs.RowByRow.{is-true}
 use Rattle.scene.proofs.left_out.LeftOut.new.Needs as need
 
@@ -18,7 +18,7 @@ ghost-result g c =
         ranked-as hit (marked marks) (told .1) (r .ranks) 4096 (found .ranked),
         (
           open-as hit (marked marks) (told .1) (r .positions) 4096 (found .«open»),
-          (turn-as hit (marked marks) (told .1) (r .positions) 4096 (found .sequence), tt),
+          (missed-le (marked marks) 0 4096, (turn-as hit (marked marks) (told .1) (r .positions) 4096 (found .sequence), tt)),
         ),
       ),
     )
