@@ -9,7 +9,7 @@ use crate::titles::Pair;
 use crate::titles::TitleRelation;
 
 // The largest set of title relations.
-const ALL_RELATIONS: u16 = 8191;
+pub const ALL_RELATIONS: u16 = 8191;
 
 // Whether a title relation is in the set, with that sign at the pair.
 fn shows(set: u16, pair: Pair, sign: Relation, t: TitleRelation) -> bool

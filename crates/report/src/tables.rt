@@ -4,7 +4,6 @@ ghost use Rattle.std.specs.Of.String.{string-bytes};
 ghost use Rattle.std.specs.Of.Vec.{vec-items};
 ghost use Rattle.std.specs.Vec.{made};
 ghost use Rattle.report.specs.Tables.{Shown, found-text, refused-text};
-ghost use Rattle.scene.specs.Refusals.{numberOf};
 use crate::rows::hex;
 use crate::rows::listing;
 use std::alloc::AllocError;

@@ -1,8 +1,8 @@
 -- Which positions remain where some are marked.
 use mathlib.Core.Path.{_≡_, refl, sym, ap, _∙_}
-use mathlib.Core.Bool.{Bool, true, false, cond, _&&_, _||_}
+use mathlib.Core.Bool.{Bool, true, false, cond, _||_}
 use mathlib.Core.List.{List, [], _∷_, _++_}
-use mathlib.Core.Logic.{_≢_, inl, inr, ⊎-elim}
+use mathlib.Core.Logic.{_≢_, ⊎-elim}
 use Prim.Native.Nat.{ℕ, zero, suc, _+_, _-_, _<_, _≤_}
 use native.Mathlib.Omega.{arith}
 use lib.Dec.{eqb, leb}
@@ -10,16 +10,16 @@ use lib.ListN.{length, getD, set, replicate}
 use Rattle.std.proofs.shelf.Lists.{getD-set-same, getD-set-other, getD-past, getD-replicate, length-replicate, length-set}
 use Rattle.std.proofs.shelf.Maps.{nth-past}
 use Rattle.std.proofs.shelf.Tests.{and-parts, and-from, and-left, and-right, or-from, or-right, cases-lt, cases-eq, eq-eqb, leb-true, le-leb, lt-leb, ne-eqb}
-use Rattle.std.specs.declared.option.Option.the-variants.{Some, None}
+use Rattle.std.specs.declared.option.Option.the-variants.{None}
 use Rattle.std.specs.shelf.Maps.{nth}
 use Rattle.algebra.specs.Placements.{Row}
 use Rattle.scene.specs.Marks.{marked, low, without-from, without, tally, missed, unmarked, Ranked, Open, InTurn, length-without}
 
-or-group : (a b c : Bool) → (a || (b || c)) ≡ ((a || b) || c)
+pub or-group : (a b c : Bool) → (a || (b || c)) ≡ ((a || b) || c)
 or-group true b c = refl
 or-group false b c = refl
 
-or-false : (b : Bool) → (b || false) ≡ b
+pub or-false : (b : Bool) → (b || false) ≡ b
 or-false true = refl
 or-false false = refl
 

@@ -1,12 +1,12 @@
 -- Rows that are checked one after another.
-use mathlib.Core.Path.{_≡_, refl, sym, ap, _∙_}
+use mathlib.Core.Path.{_≡_, refl, ap, _∙_}
 use mathlib.Core.Bool.{Bool, true, false, _&&_}
 use mathlib.Core.List.{List, [], _∷_, _++_}
-use mathlib.Core.Logic.{_⊎_, inl, inr}
+use mathlib.Core.Logic.{inl, inr}
 use Prim.Native.Nat.{ℕ, zero, suc, _+_, _<_}
 use lib.ListN.{length, take, drop, getD}
 use Rattle.std.proofs.shelf.Lists.{take-more, drop-more}
-use Rattle.std.proofs.shelf.Tests.{and-parts, and-from, both-ways, not-false}
+use Rattle.std.proofs.shelf.Tests.{and-parts, and-from, both-ways}
 use Rattle.algebra.specs.Placements.{Row}
 use Rattle.scene.specs.declared.refusals.Refusal.{Refusal}
 use Rattle.scene.specs.Checks.{Check, First, Clear}

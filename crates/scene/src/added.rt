@@ -19,9 +19,9 @@ use crate::sources::row_in;
 // The most rows in one addition.
 const MOST_ADDED: usize = 6;
 
-pub struct Added<'a, S> {
+pub struct Added<'a, 'm, S> {
     below: &'a S,
-    more: &'a [Row],
+    more: &'m [Row],
     // The number of moments that the rows were checked against.
     moments: u16,
     ghost few: { moments ≤ 256 },
@@ -29,7 +29,7 @@ pub struct Added<'a, S> {
     ghost short: { length (now more) ≤ 6 },
 }
 
-impl<S> Drop for Added<'_, S> {
+impl<S> Drop for Added<'_, '_, S> {
     fn drop(self) {
         let Added {
             below: _,
@@ -64,9 +64,9 @@ fn check_count(below: usize, more: usize) -> Result<(), Refusal>
     check_pile(below, more)
 }
 
-impl<'a, S: Source> Added<'a, S> {
+impl<'a, 'm, S: Source> Added<'a, 'm, S> {
     // Each row is checked in turn, then how many there are.
-    pub fn new(below: &'a S, more: &'a [Row]) -> Result<Added<'a, S>, Refusal>
+    pub fn new(below: &'a S, more: &'m [Row]) -> Result<Added<'a, 'm, S>, Refusal>
         ensures { λ r. ⌜ Answers (adding (S·Source .scene (now (below .entry))) (now (more .entry))) (λ a. Piled (S·Source .scene (now (below .entry))) (S·Source .scene (now (below .entry)) .moments) (now (more .entry)) (added (S·Source .scene (now (a .below))) (a .moments) (now (a .more)) (a .few) (a .own))) r ⌝ }
     {
         let moments = below.moments();
@@ -82,7 +82,7 @@ impl<'a, S: Source> Added<'a, S> {
     }
 }
 
-pub impl<'a, S: Source> Source for Added<'a, S> as AddedSource {
+pub impl<'a, 'm, S: Source> Source for Added<'a, 'm, S> as AddedSource {
     ghost scene = { λ a. added (S·Source .scene (now (a .below))) (a .moments) (now (a .more)) (a .few) (a .own) };
 
     fn moments(&self) -> u16 {

@@ -10,12 +10,12 @@ use crate::refusals::Refusal;
 use crate::sources::Row;
 use crate::sources::Source;
 
-pub struct Joined<'a, S, T> {
+pub struct Joined<'a, 'b, S, T> {
     first: &'a S,
-    second: &'a T,
+    second: &'b T,
 }
 
-impl<S, T> Drop for Joined<'_, S, T> {
+impl<S, T> Drop for Joined<'_, '_, S, T> {
     fn drop(self) {
         let Joined {
             first: _,
@@ -24,9 +24,9 @@ impl<S, T> Drop for Joined<'_, S, T> {
     }
 }
 
-impl<'a, S: Source, T: Source> Joined<'a, S, T> {
+impl<'a, 'b, S: Source, T: Source> Joined<'a, 'b, S, T> {
     // Refused where the two have more rows together than a source may have.
-    pub fn new(first: &'a S, second: &'a T) -> Result<Joined<'a, S, T>, Refusal>
+    pub fn new(first: &'a S, second: &'b T) -> Result<Joined<'a, 'b, S, T>, Refusal>
         ensures { λ r. ⌜ Answers (joining (S·Source .scene (now (first .entry))) (T·Source .scene (now (second .entry)))) (λ j. Piled (S·Source .scene (now (first .entry))) (T·Source .scene (now (second .entry)) .moments) (T·Source .scene (now (second .entry)) .rows) (joined (S·Source .scene (now (j .first))) (T·Source .scene (now (j .second))))) r ⌝ }
     {
         check_pile(first.count(), second.count())?;
@@ -34,7 +34,7 @@ impl<'a, S: Source, T: Source> Joined<'a, S, T> {
     }
 }
 
-pub impl<'a, S: Source, T: Source> Source for Joined<'a, S, T> as JoinedSource {
+pub impl<'a, 'b, S: Source, T: Source> Source for Joined<'a, 'b, S, T> as JoinedSource {
     ghost scene = { λ j. joined (S·Source .scene (now (j .first))) (T·Source .scene (now (j .second))) };
 
     fn moments(&self) -> u16 {

@@ -18,9 +18,9 @@ use crate::sources::Source;
 // Positions from here on cannot be marked.
 const MARKABLE: usize = 4096;
 
-pub struct LeftOut<'a, S> {
+pub struct LeftOut<'a, 'm, S> {
     below: &'a S,
-    marks: &'a [u16],
+    marks: &'m [u16],
     // The markable positions that remain, in rising sequence.
     positions: [u16; 4096],
     // How many remain below each position up to the first that cannot be marked.
@@ -32,7 +32,7 @@ pub struct LeftOut<'a, S> {
     ghost sequence: { InTurn (marked (now marks)) positions (unmarked (now marks) 4096) },
 }
 
-impl<S> Drop for LeftOut<'_, S> {
+impl<S> Drop for LeftOut<'_, '_, S> {
     fn drop(self) {
         let LeftOut {
             below: _,
@@ -89,7 +89,7 @@ fn find_remaining(table: &[bool; 4096]) -> Remaining
     Remaining { positions, ranks }
 }
 
-impl<S> LeftOut<'_, S> {
+impl<S> LeftOut<'_, '_, S> {
     // How many positions remain below a position up to the first that cannot be marked.
     fn rank(&self, position: usize) -> usize
         requires { ⌜ position ≤ 4096 ⌝ }
@@ -110,9 +110,9 @@ impl<S> LeftOut<'_, S> {
     }
 }
 
-impl<'a, S: Source> LeftOut<'a, S> {
+impl<'a, 'm, S: Source> LeftOut<'a, 'm, S> {
     // Marks may come in any sequence and more than once; one past the end leaves nothing out.
-    pub fn new(below: &'a S, marks: &'a [u16]) -> Result<LeftOut<'a, S>, Refusal>
+    pub fn new(below: &'a S, marks: &'m [u16]) -> Result<LeftOut<'a, 'm, S>, Refusal>
         ensures { λ r. ⌜ Answers (leaving-out (now (marks .entry))) (λ l. LeavesOut (S·Source .scene (now (below .entry))) (now (marks .entry)) (left-out (S·Source .scene (now (l .below))) (now (l .marks)))) r ⌝ }
     {
         let table = mark_table(marks)?;
@@ -126,7 +126,7 @@ impl<'a, S: Source> LeftOut<'a, S> {
     }
 }
 
-pub impl<'a, S: Source> Source for LeftOut<'a, S> as LeftOutSource {
+pub impl<'a, 'm, S: Source> Source for LeftOut<'a, 'm, S> as LeftOutSource {
     ghost scene = { λ l. left-out (S·Source .scene (now (l .below))) (now (l .marks)) };
 
     fn moments(&self) -> u16 {

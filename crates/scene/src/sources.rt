@@ -7,8 +7,14 @@ ghost use Rattle.std.specs.shelf.Maps.{nth};
 // The left moment, the set of relations, the right moment.
 pub type Row = (u16, u8, u16);
 
+// The most moments that a scene may have.
+pub const MOST_MOMENTS: u16 = 256;
+
 // The most rows that a source may have.
 pub const MOST_ROWS: usize = 8192;
+
+// The most rows of a sheet or a table, and of a source that is questioned or written.
+pub const MOST_WORKING_ROWS: usize = 4096;
 
 pub trait Source {
     // The moments and rows that the source stands for. A scene is lawful: 1 to 256 moments, at most

@@ -19,7 +19,7 @@ use Rattle.table.specs.declared.reader.ReadError.{ReadError}
 use Rattle.table.specs.declared.reader.ReadError.the-variants.{Refused, NoMemory}
 use Rattle.table.specs.declared.reader.Stop.{Stop}
 use Rattle.table.specs.declared.tables.Table.{Table}
-use Rattle.table.specs.Commands.{encoded, stated}
+use Rattle.table.specs.Commands.{stated}
 use Rattle.table.specs.Readings.{Answer, found, refused, NoEnd, closed, malformed, ended, Reads, stopped, Only}
 use Rattle.table.specs.Told.{Told, faultAt, Held, Commanded}
 use Rattle.table.proofs.Fitting.{stands-fit}

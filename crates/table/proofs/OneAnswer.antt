@@ -1,18 +1,17 @@
 -- Bytes have one answer: no command begins another, and a command that stands does not stop the reading.
 use mathlib.Core.Path.{_≡_, refl, sym, ap, subst, _∙_}
 use mathlib.Core.List.{List, [], _∷_, _++_}
-use mathlib.Core.Logic.{_⊎_, inl, inr}
-use Prim.Native.Nat.{ℕ, _+_, _<_, _≤_}
+use mathlib.Core.Logic.{inl, inr}
+use Prim.Native.Nat.{ℕ, _+_}
 use native.Mathlib.Omega.{arith}
 use lib.ListN.{length, drop}
 use Rattle.std.proofs.shelf.Lists.{append-assoc, append-nil, drop-at}
 use Rattle.std.specs.shelf.Lists.{joined}
-use Rattle.scene.specs.declared.refusals.Refusal.{Refusal}
 use Rattle.scene.specs.Checks.{Check, First, Clear}
 use Rattle.table.specs.declared.commands.Command.{Command}
 use Rattle.table.specs.declared.commands.Command.the-variants.{Row as row, Title as title, Rule as rule}
 use Rattle.table.specs.Commands.{encoding, encoded, Begins, declared, of-command, Stand}
-use Rattle.table.specs.Readings.{Answer, found, refused, Begun, closed, Stops, malformed, struck, ended, Reads, too-long, no-start, stopped, Only}
+use Rattle.table.specs.Readings.{Answer, refused, closed, Stops, malformed, struck, ended, Reads, too-long, no-start, stopped}
 
 -- the first check that strikes is one
 first-same : {C : Type 0} (cs : List (Check C)) (a b : C) → First cs a → First cs b → a ≡ b

@@ -1,20 +1,19 @@
 -- Commands read one after another.
 use mathlib.Core.Path.{_≡_, refl, sym, ap, subst, _∙_}
-use mathlib.Core.Bool.{Bool, true, false, _&&_, _||_}
+use mathlib.Core.Bool.{Bool, false, _||_}
 use mathlib.Core.List.{List, [], _∷_, _++_}
-use Prim.Native.Nat.{ℕ, _+_, _-_, _<_, _≤_}
+use Prim.Native.Nat.{ℕ, _+_, _≤_}
 use native.Mathlib.Omega.{arith}
-use lib.Dec.{eqb}
-use lib.ListN.{length, getD, set, drop, replicate}
-use Rattle.std.proofs.shelf.Lists.{append-assoc, append-nil, length-append, length-drop, length-replicate, length-set, drop-at, drop-drop, joined-more}
+use lib.ListN.{length, getD, drop, replicate}
+use Rattle.std.proofs.shelf.Lists.{append-assoc, append-nil, length-append, length-drop, length-replicate, drop-drop, joined-more}
 use Rattle.std.specs.shelf.Lists.{joined}
 use Rattle.algebra.specs.Placements.{Row}
 use Rattle.scene.specs.declared.refusals.Refusal.{Refusal}
 use Rattle.scene.specs.Checks.{First, Clear}
-use Rattle.scene.proofs.Marking.{set-marks, no-marks}
+use Rattle.scene.proofs.Marking.{no-marks, or-false, or-group}
 use Rattle.table.specs.declared.commands.Command.{Command}
 use Rattle.table.specs.Commands.{encoding, encoded, Begins, stated, declares, declared, of-command, Stand}
-use Rattle.table.specs.Readings.{refused, Begun, Stops, struck, Reads, stopped}
+use Rattle.table.specs.Readings.{refused, Begun, struck, Reads, stopped}
 
 -- the commands that stand up to a place, with what the reader holds of them
 pub record Progress (bytes : List ℕ) (c place : ℕ) (known : List Bool) (rows : List Row) (ks : List Command) : Type 0 where
@@ -25,16 +24,8 @@ pub record Progress (bytes : List ℕ) (c place : ℕ) (known : List Bool) (rows
   pub marks : (t : ℕ) → getD known t false ≡ declared ks t
   pub size : length known ≡ 256
 
-or-end : (b : Bool) → (b || false) ≡ b
-or-end true = refl
-or-end false = refl
-
-or-group : (a b c : Bool) → (a || (b || c)) ≡ ((a || b) || c)
-or-group true b c = refl
-or-group false b c = refl
-
 declared-push : (ks : List Command) (k : Command) (t : ℕ) → declared (ks ++ k ∷ []) t ≡ (declared ks t || declares k t)
-declared-push [] k t = or-end (declares k t)
+declared-push [] k t = or-false (declares k t)
 declared-push (l ∷ ks) k t = ap (λ b. declares l t || b) (declared-push ks k t) ∙ or-group (declares l t) (declared ks t) (declares k t)
 
 stand-push : (n : ℕ) (done ks : List Command) (k : Command) → Stand n done ks → Clear (of-command n (declared (done ++ ks)) k) → Stand n done (ks ++ k ∷ [])

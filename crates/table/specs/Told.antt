@@ -12,7 +12,6 @@ use Rattle.table.specs.declared.commands.Command.{Command}
 use Rattle.table.specs.declared.reader.ReadError.{ReadError}
 use Rattle.table.specs.declared.reader.ReadError.the-variants.{Refused, NoMemory}
 use Rattle.table.specs.declared.reader.Stop.{Stop}
-use Rattle.table.specs.declared.reader.TableFault.{TableFault}
 use Rattle.table.specs.declared.tables.Table.{Table}
 use Rattle.table.specs.Commands.{encoded, NoCommand, stated}
 use Rattle.table.specs.Readings.{Answer, found, refused, Begun, Reads}

@@ -18,13 +18,12 @@ use crate::commands::START;
 use crate::stating::Statement;
 use crate::stating::rows_stated;
 use crate::tables::Table;
-use crate::writer::MOST_ROWS;
 use scene::refusals::Refusal;
 use scene::refusals::RefusalDebug;
+use scene::sources::MOST_WORKING_ROWS;
 use scene::sources::Row;
 use std::alloc::AllocError;
 use std::alloc::Global;
-use std::alloc::Refused;
 
 // The most bytes in a table.
 const MOST_BYTES: usize = 32768;
@@ -150,7 +149,7 @@ pub fn read_table(heap: Global, bytes: &[u8]) -> Result<Table, ReadError>
     if after > 0 {
         return Err(refuse(Refusal::TableMalformed, place + 1));
     }
-    if rows.len() > MOST_ROWS {
+    if rows.len() > MOST_WORKING_ROWS {
         return Err(refuse(Refusal::TooManyRows, 0));
     }
     Ok(Table {

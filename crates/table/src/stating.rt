@@ -6,13 +6,11 @@ ghost use Rattle.scene.specs.Checks.{Answers};
 ghost use Rattle.table.specs.Commands.{has-title, stated, of-command};
 ghost use Rattle.table.specs.Statements.{rowsIn};
 use crate::commands::Command;
+use algebra::rules::ALL_RELATIONS;
 use algebra::rules::rows_of;
 use scene::added::check_row;
 use scene::refusals::Refusal;
 use scene::sources::Row;
-
-// The largest set of title relations.
-const ALL_RELATIONS: u16 = 8191;
 
 #[derive(Clone, Copy)]
 pub(crate) enum Statement {

@@ -11,18 +11,16 @@ use crate::commands::END;
 use crate::commands::ROW;
 use crate::commands::START;
 use scene::refusals::Refusal;
+use scene::sources::MOST_WORKING_ROWS;
 use scene::sources::Row;
 use scene::sources::Source;
-
-// The most rows in a table.
-pub const MOST_ROWS: usize = 4096;
 
 // The number of rows to write.
 fn rows_written<S: Source>(source: &S) -> Result<usize, Refusal>
     ensures { λ r. ⌜ Answers (of-rows (S·Source .scene (now (source .entry)) .rows)) (λ n. n ≡ length (S·Source .scene (now (source .entry)) .rows)) r ⌝ }
 {
     let count = source.count();
-    if count > MOST_ROWS {
+    if count > MOST_WORKING_ROWS {
         return Err(Refusal::TooManyRows);
     }
     Ok(count)
@@ -51,7 +49,7 @@ fn row_bytes(row: Row) -> [u8; 4]
 
 // Writes any source as a table at the start of the list, and answers how many bytes it took.
 pub fn write_table<S: Source>(source: &S, out: &mut [u8]) -> Result<usize, Refusal>
-    ensures size { λ r. ⌜ Answers (writing (S·Source .scene (now (source .entry)) .rows) (length (now (out .entry)))) (λ n. n ≡ length (written (S·Source .scene (now (source .entry)) .moments) (S·Source .scene (now (source .entry)) .rows))) r ⌝ }
+    ensures size { λ r. ⌜ Answers (writing (S·Source .scene (now (source .entry)) .rows) (length (now (out .entry)))) (λ n. (n ≡ 3 + 4 * length (S·Source .scene (now (source .entry)) .rows)) × (n ≡ length (written (S·Source .scene (now (source .entry)) .moments) (S·Source .scene (now (source .entry)) .rows)))) r ⌝ }
     ensures bytes { λ r. ⌜ Cases r (λ _. now (out .exit) ≡ over (written (S·Source .scene (now (source .entry)) .moments) (S·Source .scene (now (source .entry)) .rows)) (now (out .entry))) (λ _. now (out .exit) ≡ now (out .entry)) ⌝ }
     ensures back { λ r. ⌜ Cases r (λ n. Reads (take n (now (out .exit))) (found (S·Source .scene (now (source .entry)) .moments) (S·Source .scene (now (source .entry)) .rows))) (λ _. Unit {0}) ⌝ }
 {

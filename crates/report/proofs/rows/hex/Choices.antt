@@ -1,5 +1,4 @@
 use mathlib.Core.Path.{_≡_}
-use mathlib.Core.List.{_++_}
 use lib.ListN.{take}
 use Rattle.std.specs.Of.String.{string-bytes}
 use Rattle.std.specs.shelf.Lists.{joined}

@@ -23,7 +23,7 @@ pub part-hex-end : need.part-hex-end
 part-hex-end c =
     let t = c .args .table .now in
     let w = c .in-Ok .ensures tt in
-    let h = fits-in (written (t .moments) (vec-items (t .rows))) _ (c .write-table .last .out) (c .in-Ok .size) (w .size .1) (w .bytes) in omega arith
+    let h = fits-in (written (t .moments) (vec-items (t .rows))) _ (c .write-table .last .out) (c .in-Ok .size) (w .size .1 .1) (w .bytes) in omega arith
 
 front : (w rest out : List ℕ) (size : ℕ) → size ≡ length w → out ≡ w ++ rest → take (size - 0) out ≡ w
 front w rest out size is e = let z : size - 0 ≡ length w = omega arith in (λ i. take (z i) (e i)) ∙ take-at w rest (length w) refl
@@ -37,5 +37,5 @@ returns c =
     let t = c .args .table .now in
     let w = c .in-Ok .ensures tt in
     let size = c .in-Ok .size in
-    let bytes = c .in-Continue-bytes .ensures tt ∙ ap (joined hexed) (front (written (t .moments) (vec-items (t .rows))) _ (c .write-table .last .out) size (w .size .1) (w .bytes)) in
-    made-weaker (c .format .result) _ _ (λ s e. e ∙ all-text (t .moments) (vec-items (t .rows)) _ _ size (c .in-Continue-rows .ensures tt) (w .size .1) bytes) (c .format .ensures .made)
+    let bytes = c .in-Continue-bytes .ensures tt ∙ ap (joined hexed) (front (written (t .moments) (vec-items (t .rows))) _ (c .write-table .last .out) size (w .size .1 .1) (w .bytes)) in
+    made-weaker (c .format .result) _ _ (λ s e. e ∙ all-text (t .moments) (vec-items (t .rows)) _ _ size (c .in-Continue-rows .ensures tt) (w .size .1 .1) bytes) (c .format .ensures .made)

@@ -3,7 +3,7 @@ use mathlib.Core.Bool.{Bool, false}
 use mathlib.Core.List.{List, [], _∷_, _++_}
 use Prim.Native.Nat.{ℕ, _+_}
 use native.Mathlib.Omega.{arith}
-use lib.ListN.{length, getD, drop}
+use lib.ListN.{getD}
 use Rattle.std.proofs.shelf.Lists.{take-rest}
 use Rattle.std.proofs.shelf.Parts.{pushed}
 use Rattle.std.proofs.shelf.Results.{err-from-errBy}
@@ -13,7 +13,6 @@ use Rattle.std.specs.declared.result.Result.{Result}
 use Rattle.std.specs.declared.result.Result.the-variants.{Ok, Err}
 use Rattle.scene.specs.declared.refusals.Refusal.{Refusal}
 use Rattle.scene.specs.Checks.{Check, First, Clear, Answers}
-use Rattle.table.specs.declared.commands.Command.{Command}
 use Rattle.table.specs.declared.reader.ReadError.{ReadError}
 use Rattle.table.specs.declared.stating.Statement.{Statement}
 use Rattle.table.specs.Commands.{Begins, NoCommand, stated, of-command}

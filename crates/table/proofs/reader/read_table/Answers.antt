@@ -1,12 +1,12 @@
-use mathlib.Core.Path.{_≡_, refl, sym, ap, subst, _∙_}
+use mathlib.Core.Path.{_≡_, sym, ap, subst, _∙_}
 use mathlib.Core.Bool.{true}
 use Prim.Native.Nat.{_+_}
 use native.Mathlib.Omega.{arith}
-use lib.ListN.{length, drop}
+use lib.ListN.{drop}
 use Rattle.std.proofs.shelf.Lists.{take-rest}
 use Rattle.std.proofs.shelf.Results.{err-from-errBy}
 use Rattle.std.specs.Of.Vec.{vec-items}
-use Rattle.std.specs.declared.result.Result.the-variants.{Ok, Err}
+use Rattle.std.specs.declared.result.Result.the-variants.{Err}
 use Rattle.scene.specs.declared.refusals.Refusal.the-variants.{TableMalformed, TooManyRows}
 use Rattle.scene.specs.Scenes.{all-fit}
 use Rattle.table.specs.Readings.{NoEnd, EndBefore, Reads, found, too-long, no-start}
@@ -57,14 +57,14 @@ returns-then-after-gt0 c =
     (bytes-late bytes (c .in-Some .last) s (held .0) (held .1) (drop 1 (drop (s .place) bytes)) (end .0) (omega (arith, end .1))) in
     record { reads = h; only = only-told bytes (Err e) h }
 
-pub returns-then-len-gt-MOST-ROWS : need.returns-then-len-gt-MOST-ROWS
-returns-then-len-gt-MOST-ROWS c =
+pub returns-then-len-gt-MOST-WORKING-ROWS : need.returns-then-len-gt-MOST-WORKING-ROWS
+returns-then-len-gt-MOST-WORKING-ROWS c =
     let bytes = c .args .bytes .now in
     let s = c .in-Continue-rows .field-0 in
     let held = c .in-Continue-rows .ensures tt in
     let end = subst (λ bs. EndBefore bs (c .in-Some-after-end .after)) (take-rest bytes (s .place)) (c .in-Some-after-end .ensures tt) in
-    let e = c .refuse-then-len-gt-MOST-ROWS .result in
-    let h = told-refusal bytes e TooManyRows 0 (c .refuse-then-len-gt-MOST-ROWS .ensures)
+    let e = c .refuse-then-len-gt-MOST-WORKING-ROWS .result in
+    let h = told-refusal bytes e TooManyRows 0 (c .refuse-then-len-gt-MOST-WORKING-ROWS .ensures)
     (rows-many bytes (c .in-Some .last) s (held .0) (held .1) (drop 1 (drop (s .place) bytes)) (end .0) (omega (arith, end .1)) (omega (arith, s .rows .ok .0))) in
     record { reads = h; only = only-told bytes (Err e) h }
 

@@ -1,10 +1,9 @@
-use mathlib.Core.Path.{_≡_, refl, sym, ap, subst, _∙_}
-use mathlib.Core.List.{List, [], _∷_, _++_, map}
-use Prim.Native.Nat.{ℕ, _+_, _-_, _*_, _<_, _≤_}
+use mathlib.Core.Path.{_≡_, sym, ap, subst, _∙_}
+use mathlib.Core.List.{_∷_, _++_, map}
+use Prim.Native.Nat.{_+_, _-_, _*_}
 use native.Mathlib.Omega.{arith}
-use lib.ListN.{length, getD, set, take, drop}
+use lib.ListN.{length, set, take, drop}
 use Rattle.std.proofs.shelf.Lists.{take-all, take-at}
-use Rattle.algebra.specs.Placements.{Row}
 use Rattle.scene.proofs.Owned.{own-row}
 use Rattle.scene.proofs.Pile.{at-most}
 use Rattle.scene.proofs.Positions.{nth-there}
@@ -54,7 +53,7 @@ returns g c =
     let size = sized .1 ∙ written-size (s .moments - 1) (s .rows) n (counted .1) in
     let exit = ap (λ m. set (c .loop-i .out) (m - 1) 0) (sized .1) ∙ end-put (s .moments - 1) (s .rows) start (c .loop-i .out) xs n (counted .1) room (header-leaves xs 16 (c .moments .result - 1) (2 + 4 * n) (omega arith)) inv in
     record {
-      size = ((counted .0 .0, ((λ h. omega (arith, counted .1)), tt)), size);
+      size = ((counted .0 .0, ((λ h. omega (arith, counted .1)), tt)), (sized .1 ∙ ap (λ m. 3 + 4 * m) (counted .1), size));
       bytes = exit;
       back = subst (λ bs. Reads bs (found (s .moments) (s .rows))) (sym (ap (take (c .in-Continue-size .size)) exit ∙ take-at (written (s .moments) (s .rows)) _ (c .in-Continue-size .size) (sym size)))
           (reads-back (s .moments) (s .rows) (s .lawful) few);

@@ -1,6 +1,6 @@
 use mathlib.Core.Path.{_≡_, refl, sym, ap, subst, _∙_}
 use mathlib.Core.Bool.{true}
-use mathlib.Core.List.{List, [], _∷_, _++_}
+use mathlib.Core.List.{List, _++_}
 use mathlib.Core.Logic.{inl, inr}
 use Prim.Native.Nat.{ℕ, _+_, _≤_, max}
 use native.Mathlib.Omega.{arith}
@@ -8,10 +8,9 @@ use lib.ListN.{length, take}
 use Rattle.std.proofs.shelf.Lists.{take-all}
 use Rattle.std.proofs.shelf.Results.{err-from-errBy}
 use Rattle.algebra.specs.Placements.{Row}
-use Rattle.scene.specs.declared.refusals.Refusal.the-variants.{TooManyRows}
 use Rattle.scene.specs.Checks.{First, Clear}
 use Rattle.scene.specs.Layers.{row-by-row, of-count}
-use Rattle.scene.specs.Scenes.{Scene, all-fit}
+use Rattle.scene.specs.Scenes.{all-fit}
 use Rattle.scene.proofs.Pile.{at-most, pile-whole}
 use Rattle.scene.proofs.RowByRow.{first-at, first-last, all-clear, fits-more}
 use Rattle.scene.proofs.added.Added.new.Needs as need

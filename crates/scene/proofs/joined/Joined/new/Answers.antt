@@ -1,7 +1,6 @@
 use mathlib.Core.Path.{refl}
-use Prim.Native.Nat.{_+_, _<_, _≤_}
+use Prim.Native.Nat.{_+_}
 use native.Mathlib.Omega.{arith}
-use lib.ListN.{length}
 use Rattle.scene.proofs.Pile.{at-most, pile-whole}
 use Rattle.scene.proofs.joined.Joined.new.Needs as need
 

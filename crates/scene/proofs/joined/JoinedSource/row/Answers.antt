@@ -1,7 +1,5 @@
 use mathlib.Core.Path.{_∙_, subst}
-use native.Mathlib.Omega.{arith}
-use lib.ListN.{length}
-use Rattle.scene.specs.declared.piles.Standing.the-variants.{Below, Above, Past}
+use Rattle.scene.specs.declared.piles.Standing.the-variants.{Below, Above}
 use Rattle.scene.specs.Layers.{StandsAt}
 use Rattle.scene.proofs.Pile.{pile-below, pile-above, pile-past}
 use Rattle.scene.proofs.joined.JoinedSource.row.Needs as need

@@ -1,7 +1,6 @@
 use mathlib.Core.Path.{_∙_, ap}
 use Prim.Native.Nat.{_+_, _-_}
 use native.Mathlib.Omega.{arith}
-use lib.ListN.{length}
 use Rattle.scene.specs.Marks.{unmarked}
 use Rattle.scene.proofs.Marking.{count-without, count-after}
 use Rattle.scene.proofs.left_out.LeftOutSource.count.Needs as need
