@@ -2,9 +2,11 @@
 use mathlib.Core.Path.{_≡_}
 use mathlib.Core.Bool.{Bool, true, _&&_}
 use mathlib.Core.List.{List, [], _∷_}
-use Prim.Native.Nat.{ℕ, _≤_}
+use Prim.Native.Nat.{ℕ, _<_, _≤_}
 use lib.Dec.{leb, ltb}
-use lib.ListN.{length}
+use lib.ListN.{length, getD}
+use Rattle.std.specs.Options.{Cases}
+use Rattle.std.specs.declared.option.Option.{Option}
 use Rattle.algebra.specs.Placements.{Row, Placement, ObeysAll}
 
 -- some placement obeys all rows
@@ -39,3 +41,7 @@ pub record Scene : Type 0 where
   pub moments : ℕ
   pub rows : List Row
   pub lawful : Lawful moments rows
+
+-- the row at a position of a list, and none at or past its end
+abbrev pub RowIn : List Row → ℕ → Option Row → Type 0
+RowIn rows k r = Cases r (length rows ≤ k) (λ row. (k < length rows) × (row ≡ getD rows k (0, 0, 0)))

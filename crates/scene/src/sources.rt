@@ -1,7 +1,7 @@
 // A source answers rows; what it means is a scene.
 ghost use mathlib.Core.Path.{_≡_};
 ghost use lib.ListN.{length};
-ghost use Rattle.scene.specs.Scenes.{Scene};
+ghost use Rattle.scene.specs.Scenes.{Scene, RowIn};
 ghost use Rattle.std.specs.shelf.Maps.{nth};
 
 // The left moment, the set of relations, the right moment.
@@ -34,7 +34,7 @@ pub trait Source {
 
 // The row at a position of a list; none at or past its end.
 pub fn row_in(rows: &[Row], position: usize) -> Option<Row>
-    ensures { λ r. ⌜ r ≡ nth (now (rows .entry)) position ⌝ }
+    ensures { λ r. ⌜ RowIn (now (rows .entry)) position r ⌝ }
 {
     if position < rows.len() {
         Some(rows[position])
