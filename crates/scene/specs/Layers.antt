@@ -17,9 +17,9 @@ use Rattle.scene.specs.Laws.{fit-more, fit-append, fit-take}
 use Rattle.scene.specs.Marks.{low, without, fit-without, length-without}
 use Rattle.scene.specs.Scenes.{Scene, Lawful, names, ranged, all-fit}
 
--- the scene has the larger number of moments, the rows below, and more rows after them
-abbrev pub Piled : Scene → ℕ → List Row → Scene → Type 0
-Piled below n more s = (s .moments ≡ max (below .moments) n) × (s .rows ≡ below .rows ++ more)
+-- the scene has n moments, the rows below, and more rows after them
+abbrev pub Piled : ℕ → List Row → List Row → Scene → Type 0
+Piled n below more s = (s .moments ≡ n) × (s .rows ≡ below ++ more)
 
 -- a layer answers at most the first 8,192 of these
 abbrev pub pile : List Row → List Row → List Row

@@ -67,7 +67,7 @@ fn check_count(below: usize, more: usize) -> Result<(), Refusal>
 impl<'a, 'm, S: Source> Added<'a, 'm, S> {
     // Each row is checked in turn, then how many there are.
     pub fn new(below: &'a S, more: &'m [Row]) -> Result<Added<'a, 'm, S>, Refusal>
-        ensures { λ r. ⌜ Answers (adding (S·Source .scene (now (below .entry))) (now (more .entry))) (λ a. Piled (S·Source .scene (now (below .entry))) (S·Source .scene (now (below .entry)) .moments) (now (more .entry)) (added (S·Source .scene (now (a .below))) (a .moments) (now (a .more)) (a .few) (a .own))) r ⌝ }
+        ensures { λ r. ⌜ Answers (adding (S·Source .scene (now (below .entry))) (now (more .entry))) (λ a. Piled (S·Source .scene (now (below .entry)) .moments) (S·Source .scene (now (below .entry)) .rows) (now (more .entry)) (added (S·Source .scene (now (a .below))) (a .moments) (now (a .more)) (a .few) (a .own))) r ⌝ }
     {
         let moments = below.moments();
         for row in more {

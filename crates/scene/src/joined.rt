@@ -1,5 +1,6 @@
 // Two sources as one: the rows of the first, then those of the second.
 ghost use denote.Ref.{now};
+ghost use Prim.Native.Nat.{max};
 ghost use Rattle.scene.specs.Checks.{Answers};
 ghost use Rattle.scene.specs.Layers.{Piled, joined, joining};
 use crate::piles::Standing;
@@ -27,7 +28,7 @@ impl<S, T> Drop for Joined<'_, '_, S, T> {
 impl<'a, 'b, S: Source, T: Source> Joined<'a, 'b, S, T> {
     // Refused where the two have more rows together than a source may have.
     pub fn new(first: &'a S, second: &'b T) -> Result<Joined<'a, 'b, S, T>, Refusal>
-        ensures { λ r. ⌜ Answers (joining (S·Source .scene (now (first .entry))) (T·Source .scene (now (second .entry)))) (λ j. Piled (S·Source .scene (now (first .entry))) (T·Source .scene (now (second .entry)) .moments) (T·Source .scene (now (second .entry)) .rows) (joined (S·Source .scene (now (j .first))) (T·Source .scene (now (j .second))))) r ⌝ }
+        ensures { λ r. ⌜ Answers (joining (S·Source .scene (now (first .entry))) (T·Source .scene (now (second .entry)))) (λ j. Piled (max (S·Source .scene (now (first .entry)) .moments) (T·Source .scene (now (second .entry)) .moments)) (S·Source .scene (now (first .entry)) .rows) (T·Source .scene (now (second .entry)) .rows) (joined (S·Source .scene (now (j .first))) (T·Source .scene (now (j .second))))) r ⌝ }
     {
         check_pile(first.count(), second.count())?;
         Ok(Joined { first, second })

@@ -2,7 +2,7 @@ use mathlib.Core.Path.{_≡_, refl, sym, ap, subst, _∙_}
 use mathlib.Core.Bool.{true}
 use mathlib.Core.List.{List, _++_}
 use mathlib.Core.Logic.{inl, inr}
-use Prim.Native.Nat.{ℕ, _+_, _≤_, max}
+use Prim.Native.Nat.{ℕ, _+_, _≤_}
 use native.Mathlib.Omega.{arith}
 use lib.ListN.{length, take}
 use Rattle.std.proofs.shelf.Lists.{take-all}
@@ -57,5 +57,5 @@ returns g c =
     let passed = subst (λ n. Clear (of-count n (length more))) (c .count .ensures) (c .in-Continue-check-count .ensures tt .0) in (
       all-clear (s .moments) (of-count (length (s .rows)) (length more)) more
           (all-own (c .moments-moments .result) (s .moments) more (c .loop-row .row-index) (c .moments-moments .ensures) (omega arith) (c .loop-row .inv)) passed,
-      (ap (max (s .moments)) (c .moments-moments .ensures), pile-whole (s .rows) more (at-most 8192 (length (s .rows) + length more) (λ h. passed .0 (inr h)))),
+      (omega (arith, c .moments-moments .ensures), pile-whole (s .rows) more (at-most 8192 (length (s .rows) + length more) (λ h. passed .0 (inr h)))),
     )
