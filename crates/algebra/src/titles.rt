@@ -1,6 +1,6 @@
 // The thirteen relations between titles.
 ghost use mathlib.Core.Path.{_≡_};
-ghost use Rattle.algebra.specs.Titles.{facts, sign, holds, thirteen, pairs, OneHolds};
+ghost use Rattle.algebra.specs.Titles.{facts, sign, holds, thirteen, OneHolds};
 use crate::points::Relation;
 
 #[derive(Clone, Copy, Debug, PartialEq, Eq)]
@@ -27,19 +27,6 @@ pub enum Pair {
     RiseFall,
     FallRise,
     FallFall,
-}
-
-impl Pair {
-    pub fn all() -> [Pair; 4]
-        ensures { λ r. ⌜ r ≡ pairs ⌝ }
-    {
-        [
-            Pair::RiseRise,
-            Pair::RiseFall,
-            Pair::FallRise,
-            Pair::FallFall,
-        ]
-    }
 }
 
 impl TitleRelation {

@@ -21,6 +21,7 @@ found-text n rows = lines n rows ++ (codes "written" ++ (9 ∷ (decimal (length 
 abbrev pub refused-text : Refusal → ℕ → List ℕ
 refused-text r place = codes "refused" ++ (9 ∷ (decimal (numberOf r) ++ (9 ∷ (decimal place ++ (10 ∷ [])))))
 
+-- the text of an answer
 abbrev pub text-of : Answer → List ℕ
 text-of (found n rows) = found-text n rows
 text-of (refused r place) = refused-text r place

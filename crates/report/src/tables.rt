@@ -6,6 +6,7 @@ ghost use Rattle.std.specs.Vec.{made};
 ghost use Rattle.report.specs.Tables.{Shown, found-text, refused-text};
 use crate::rows::hex;
 use crate::rows::listing;
+use scene::sources::MOST_WORKING_ROWS;
 use std::alloc::AllocError;
 use std::alloc::Global;
 use table::reader::ReadError;
@@ -16,7 +17,7 @@ use table::tables::TableSource;
 use table::writer::write_table;
 
 // The bytes of the longest table that is written.
-const MOST_WRITTEN: usize = 16387;
+const MOST_WRITTEN: usize = 3 + 4 * MOST_WORKING_ROWS;
 
 // The line of a refusal.
 fn text_of_fault(heap: Global, fault: TableFault) -> Result<String, AllocError>

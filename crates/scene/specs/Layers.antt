@@ -54,6 +54,7 @@ joined a b = added a (b .moments) (b .rows) (b .lawful .few) (b .lawful .own)
 abbrev pub of-row : ℕ → Row → List (Check Refusal)
 of-row n r = (OutsideScene, names n r ≡ false) ∷ (SetOutOfRange, ranged r ≡ false) ∷ []
 
+-- the checks of each row in turn
 abbrev pub row-by-row : ℕ → List Row → List (Check Refusal)
 row-by-row n [] = []
 row-by-row n (r ∷ rs) = of-row n r ++ row-by-row n rs
@@ -62,12 +63,15 @@ row-by-row n (r ∷ rs) = of-row n r ++ row-by-row n rs
 abbrev pub of-count : ℕ → ℕ → List (Check Refusal)
 of-count below more = (TooManyRows, (6 < more) ⊎ (8192 < below + more)) ∷ []
 
+-- the checks of an addition: row by row, then their number
 abbrev pub adding : Scene → List Row → List (Check Refusal)
 adding s more = row-by-row (s .moments) more ++ of-count (length (s .rows)) (length more)
 
+-- the check of a joining
 abbrev pub joining : Scene → Scene → List (Check Refusal)
 joining a b = (TooManyRows, 8192 < length (a .rows) + length (b .rows)) ∷ []
 
+-- rows that are left are as lawful as all
 pub left-lawful : (s : Scene) (marks : List ℕ) → Lawful (s .moments) (without marks (s .rows))
 left-lawful s marks =
     let l = s .lawful in
@@ -77,8 +81,10 @@ left-lawful s marks =
 abbrev pub left-out : Scene → List ℕ → Scene
 left-out s marks = record { moments = s .moments; rows = without marks (s .rows); lawful = left-lawful s marks }
 
+-- the scene has the moments below, and the rows that are not marked
 abbrev pub LeavesOut : Scene → List ℕ → Scene → Type 0
 LeavesOut below marks s = (s .moments ≡ below .moments) × (s .rows ≡ without marks (below .rows))
 
+-- the check of a leaving out
 abbrev pub leaving-out : List ℕ → List (Check Refusal)
 leaving-out marks = (NoSuchRow, low marks ≡ false) ∷ []

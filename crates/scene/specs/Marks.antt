@@ -25,6 +25,7 @@ abbrev pub without-from : List ℕ → ℕ → List Row → List Row
 without-from ms i [] = []
 without-from ms i (r ∷ rs) = cond (marked ms i) (without-from ms (suc i) rs) (r ∷ without-from ms (suc i) rs)
 
+-- the rows of a whole list whose positions are not marked
 abbrev pub without : List ℕ → List Row → List Row
 without ms rs = without-from ms 0 rs
 

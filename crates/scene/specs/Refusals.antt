@@ -3,6 +3,7 @@ use Prim.Native.Nat.{ℕ}
 use Rattle.scene.specs.declared.refusals.Refusal.{Refusal}
 use Rattle.scene.specs.declared.refusals.Refusal.the-variants.{SheetTooLong, HeaderWrong, LineMalformed, CueNumberWrong, ItemMalformed, NotPointisable, TitleNotInSheet, TitleCountWrong, TableMalformed, OperandOutOfRange, TitleUndeclared, OutsideScene, SetOutOfRange, TooManyRows, ListTooShort, MomentCountWrong, NoSuchRow, PencilStands, SlipMismatch, BookFull, NumbersSpent, Clash}
 
+-- the number by which people know a refusal
 abbrev pub numberOf : Refusal → ℕ
 numberOf SheetTooLong = 1
 numberOf HeaderWrong = 2

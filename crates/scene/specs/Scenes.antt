@@ -25,6 +25,7 @@ names n r = ltb (r .0) n && ltb (r .2) n
 abbrev pub ranged : Row → Bool
 ranged r = leb 1 (r .1) && leb (r .1) 7
 
+-- whether each row does both
 abbrev pub all-fit : ℕ → List Row → Bool
 all-fit n [] = true
 all-fit n (r ∷ rs) = (names n r && ranged r) && all-fit n rs

@@ -16,6 +16,7 @@ use Rattle.scene.specs.Scenes.{names, ranged}
 use Rattle.table.specs.declared.commands.Command.{Command}
 use Rattle.table.specs.declared.commands.Command.the-variants.{Row as row, Title as title, Rule as rule}
 
+-- the bytes of a command: what it is, then its operands
 abbrev pub encoding : Command → List ℕ
 encoding (row a s b) = 0x01 ∷ a ∷ s ∷ b ∷ []
 encoding (title t) = 0x03 ∷ t ∷ []
@@ -58,15 +59,19 @@ abbrev pub declared : List Command → ℕ → Bool
 declared [] t = false
 declared (k ∷ ks) t = declares k t || declared ks t
 
--- what is checked of a command over n moments, where some titles were declared before
+-- what is checked of a rule over n moments, where some titles were declared before
+abbrev pub of-rule : ℕ → (ℕ → Bool) → ℕ → ℕ → ℕ → List (Check Refusal)
+of-rule n known t set u =
+    (OperandOutOfRange, ((leb 1 set && leb set 8191) && (has-title n t && has-title n u)) ≡ false)
+    ∷ (TitleUndeclared, (known t && known u) ≡ false)
+    ∷ (NotPointisable, pointisable set ≡ false)
+    ∷ []
+
+-- the same of any command
 abbrev pub of-command : ℕ → (ℕ → Bool) → Command → List (Check Refusal)
 of-command n known (row a s b) = (OperandOutOfRange, (names n (a, s, b) && ranged (a, s, b)) ≡ false) ∷ []
 of-command n known (title t) = (OperandOutOfRange, has-title n t ≡ false) ∷ []
-of-command n known (rule t h l u) =
-    (OperandOutOfRange, ((leb 1 (set-of h l) && leb (set-of h l) 8191) && (has-title n t && has-title n u)) ≡ false)
-    ∷ (TitleUndeclared, (known t && known u) ≡ false)
-    ∷ (NotPointisable, pointisable (set-of h l) ≡ false)
-    ∷ []
+of-command n known (rule t h l u) = of-rule n known t (set-of h l) u
 
 -- no check of a command strikes, where the earlier ones are those before it
 abbrev pub Stand : ℕ → List Command → List Command → Type 0

@@ -16,12 +16,15 @@ use Rattle.table.specs.declared.tables.Table.{Table}
 use Rattle.table.specs.Commands.{encoded, NoCommand, stated}
 use Rattle.table.specs.Readings.{Answer, found, refused, Begun, Reads}
 
+-- a value as it is
 abbrev pub same : {T : Type 0} → T → T
 same x = x
 
+-- a refusal with its place, as an error of the reader
 abbrev pub faultAt : ℕ → Refusal → ReadError
 faultAt place r = Refused (record { refusal = r; place = place })
 
+-- the answer that the result tells has the property
 abbrev pub Told : (Answer → Type 0) → Result Table ReadError → Type 0
 Told P (Ok t) = P (found (t .moments) (vec-items (t .rows)))
 Told P (Err (Refused f)) = P (refused (f .refusal) (f .place))

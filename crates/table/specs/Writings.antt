@@ -22,12 +22,14 @@ written n rows = encoded (n - 1) (map row-command rows) ++ 0x00 ∷ []
 abbrev pub over : List ℕ → List ℕ → List ℕ
 over bytes xs = bytes ++ drop (length bytes) xs
 
--- what is checked of the rows, and of the list's length
+-- what is checked of the rows
 abbrev pub of-rows : List Row → List (Check Refusal)
 of-rows rows = (TooManyRows, 4096 < length rows) ∷ []
 
+-- what is checked of the list's length
 abbrev pub of-room : ℕ → ℕ → List (Check Refusal)
 of-room rows room = (ListTooShort, room < 3 + 4 * rows) ∷ []
 
+-- both, in their sequence
 abbrev pub writing : List Row → ℕ → List (Check Refusal)
 writing rows room = of-rows rows ++ of-room (length rows) room

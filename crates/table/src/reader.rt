@@ -28,7 +28,7 @@ use std::alloc::Global;
 // The most bytes in a table.
 const MOST_BYTES: usize = 32768;
 
-// Why a table was refused, and the place of the command at fault.
+// Why a table was refused, and the place of the fault.
 #[derive(Clone, Copy, Debug)]
 pub struct TableFault {
     pub refusal: Refusal,
@@ -49,6 +49,7 @@ pub impl From<AllocError> for ReadError as ReadErrorFromAlloc {
     }
 }
 
+// A refusal at a place.
 fn refuse(refusal: Refusal, place: usize) -> ReadError
     ensures { λ r. ⌜ r ≡ ReadError.Refused (record { refusal = refusal; place = place }) ⌝ }
 {
@@ -80,7 +81,7 @@ fn add_rows(rows: &mut Vec<Row>, statement: Statement) -> Result<(), AllocError>
 
 // The titles known, with the one that the command declares, if it does.
 fn mark_declared(known: &mut [bool; 256], command: Command)
-    ensures marks { λ _. ⌜ ((t : ℕ) → getD (now (known .exit)) t false ≡ (getD (now (known .entry)) t false || declares command t)) ⌝ }
+    ensures { λ _. ⌜ ((t : ℕ) → getD (now (known .exit)) t false ≡ (getD (now (known .entry)) t false || declares command t)) ⌝ }
 {
     if let Command::Title { title } = command {
         known[title as usize] = true;
@@ -93,7 +94,7 @@ struct Stop {
     place: usize,
 }
 
-// The commands after the first, which has one moment more than its operand says.
+// The commands after the first, whose operand is the last moment.
 fn read_commands(heap: Global, bytes: &[u8], last: u8) -> Result<Stop, ReadError>
     requires { ⌜ length (now bytes) ≤ 32768 ⌝ ∗ ⌜ now bytes ≡ 16 ∷ last ∷ drop 2 (now bytes) ⌝ }
     ensures { λ r. ⌜ Commanded (now (bytes .entry)) last r ⌝ }

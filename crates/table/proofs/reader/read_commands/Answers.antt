@@ -64,7 +64,7 @@ loop-command-again c =
       l .inv .0 ++ k ∷ [],
       subst (λ n. Progress bytes (c .args .last) (l .place + n) (c .mark-declared .last .known) (vec-items (c .add-rows .last .rows)) (l .inv .0 ++ k ∷ [])) (sym (c .size-place .ensures))
           (progress-more bytes (c .args .last) (l .place) (l .known) (vec-items (l .rows)) (l .inv .0) (l .inv .1) k b (c .mark-declared .last .known) (vec-items (c .add-rows .last .rows))
-          (t .0) (c .mark-declared .array-long) (c .mark-declared .ensures .marks) (rows ∙ ap (λ rs. vec-items (l .rows) ++ rs) (t .1))),
+          (t .0) (c .mark-declared .array-long) (c .mark-declared .ensures) (rows ∙ ap (λ rs. vec-items (l .rows) ++ rs) (t .1))),
     )
 
 pub returns : need.returns
