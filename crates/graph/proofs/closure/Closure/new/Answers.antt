@@ -1,0 +1,8 @@
+use Rattle.graph.specs.Reaching.{reaches}
+use Rattle.graph.proofs.Closed.{alone-selfs, alone-joins}
+use Rattle.graph.proofs.closure.Closure.new.Needs as need
+
+pub ghost-result : need.ghost-result
+ghost-result c =
+    let t = reaches (c .alone .result) in
+    (alone-selfs t (c .alone .ensures), (alone-joins t (c .alone .ensures), tt))

@@ -1,0 +1,13 @@
+use mathlib.Core.Path.{_≡_, refl, ap, sym, _∙_}
+use mathlib.Core.List.{List, [], _∷_}
+use mathlib.Core.Logic.{inl, inr}
+use Prim.Native.Nat.{ℕ, _/_, _%_, _<_}
+use native.Mathlib.Omega.{arith}
+use lib.Bits.{bitOr}
+use lib.ListN.{getD}
+use Rattle.graph.specs.Sets.{bit}
+use Rattle.graph.proofs.BitLaws.{bit-or, join-four}
+use Rattle.graph.proofs.moments.Moments.join.Needs as need
+
+pub returns : need.returns
+returns c = λ k h. ap (λ w. bit w (k % 64)) (join-four (c .args .self .words) (c .args .other .words) (k / 64) (omega arith)) ∙ bit-or (getD (c .args .self .words) (k / 64) 0) (getD (c .args .other .words) (k / 64) 0) (k % 64)

@@ -1,0 +1,34 @@
+use mathlib.Core.Path.{refl}
+use mathlib.Core.Logic.{inl, inr}
+use native.Mathlib.Omega.{arith}
+use Rattle.graph.specs.Reaching.{reaches}
+use Rattle.graph.proofs.Outcome.{one-order, ordered-most, ordered-obeys}
+use Rattle.graph.proofs.order.write_order.Needs as need
+
+pub returns-then-entries-moments : need.returns-then-entries-moments
+returns-then-entries-moments g c = record {
+    answer = inl (refl, omega (arith, c .if-entries-moments .taken, c .moments .ensures));
+    list = refl;
+    one = one-order (g .S·Source .scene (c .args .source .now))
+}
+
+pub returns-in-rest : need.returns-in-rest
+returns-in-rest g c = record {
+    answer = inr ((λ h. omega (arith, h, c .if-entries-moments .left, c .moments .ensures)), inl (refl, c .in-rest .ensures tt));
+    list = refl;
+    one = one-order (g .S·Source .scene (c .args .source .now))
+}
+
+pub returns : need.returns
+returns g c =
+    let s = g .S·Source .scene (c .args .source .now) in
+    let e = c .in-Some .ensures tt in
+    let es = c .place-groups .last .entries in
+    let k = c .place-groups .result in
+    let o = c .place-groups .ensures .order in
+    record {
+        answer = (((λ h. omega (arith, h, c .if-entries-moments .left, c .moments .ensures)), ((λ h. h (e .0)), tt)),
+            (o, ordered-obeys s (reaches (c .in-Some .closure .rows)) (e .1) es k o (e .0), ordered-most s es k o));
+        list = c .place-groups .ensures .rest;
+        one = one-order s
+    }

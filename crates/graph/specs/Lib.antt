@@ -1,0 +1,9 @@
+pub mod Steps
+pub mod Clashes
+pub mod Sets
+pub mod Reaching
+pub mod Turns
+pub mod Orders
+pub mod Turned
+pub mod Within
+pub mod Free

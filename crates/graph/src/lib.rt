@@ -1,0 +1,5 @@
+pub mod closure;
+pub mod consistency;
+mod moments;
+pub mod order;
+mod turned;
