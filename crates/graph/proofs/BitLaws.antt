@@ -47,21 +47,21 @@ one-above i j h = let z : 2 ^ j / 2 ^ i ≡ 0 = div-eq-of-lt (pow-below j i h) i
 
 pub bit-one : (i j : ℕ) → bit (2 ^ j) i ≡ eqb i j
 bit-one i j = elim (cases-order i j) [
-    inl e ↦ subst (λ v. bit (2 ^ j) v ≡ eqb v j) (sym e) (eq-eqb _ 1 (one-here j) ∙ sym (eq-eqb j j refl))
-    | inr (inl lt) ↦ (
-        let e : (1 + (j - suc i)) + i ≡ j = omega arith in
-        let z : 2 ^ j / 2 ^ i % 2 ≡ 0 = subst (λ v. 2 ^ v / 2 ^ i % 2 ≡ 0) e (one-below i (j - suc i)) in
-        ne-eqb _ 1 (λ f. omega arith) ∙ sym (ne-eqb i j (λ f. omega arith)))
-    | inr (inr gt) ↦ (
-        let z = one-above i j gt in
-        ne-eqb _ 1 (λ f. omega arith) ∙ sym (ne-eqb i j (λ f. omega arith)))
+  | inl e ↦ subst (λ v. bit (2 ^ j) v ≡ eqb v j) (sym e) (eq-eqb _ 1 (one-here j) ∙ sym (eq-eqb j j refl))
+  | inr (inl lt) ↦ (
+      let e : (1 + (j - suc i)) + i ≡ j = omega arith in
+      let z : 2 ^ j / 2 ^ i % 2 ≡ 0 = subst (λ v. 2 ^ v / 2 ^ i % 2 ≡ 0) e (one-below i (j - suc i)) in
+      ne-eqb _ 1 (λ f. omega arith) ∙ sym (ne-eqb i j (λ f. omega arith)))
+  | inr (inr gt) ↦ (
+      let z = one-above i j gt in
+      ne-eqb _ 1 (λ f. omega arith) ∙ sym (ne-eqb i j (λ f. omega arith)))
 ]
 
 -- a word in a list, and the others as they were
 word-set : (ws : List ℕ) (i j w : ℕ) → i < length ws → (i ≡ j → w ≡ getD ws i 0) → getD (set ws i w) j 0 ≡ getD ws j 0
 word-set ws i j w h same = elim (cases-eq j i) [
-    inl e ↦ subst (λ v. getD (set ws i w) v 0 ≡ getD ws v 0) (sym e) (getD-set-same ws i w 0 h ∙ same (sym e))
-    | inr ne ↦ getD-set-other ws i j w 0 ne
+  | inl e ↦ subst (λ v. getD (set ws i w) v 0 ≡ getD ws v 0) (sym e) (getD-set-same ws i w 0 h ∙ same (sym e))
+  | inr ne ↦ getD-set-other ws i j w 0 ne
 ]
 
 -- one more bit in a list of words
@@ -69,11 +69,11 @@ bit-set : (ws : List ℕ) (m k : ℕ) → m / 64 < length ws
     → bit (getD (set ws (m / 64) (bitOr (getD ws (m / 64) 0) ((1 * 2 ^ (m % 64)) % 2 ^ 64))) (k / 64) 0) (k % 64)
     ≡ (bit (getD ws (k / 64) 0) (k % 64) || eqb k m)
 bit-set ws m k h = elim (cases-eq (k / 64) (m / 64)) [
-    inl e ↦ (
-        rw (e, getD-set-same ws (m / 64) (bitOr (getD ws (m / 64) 0) ((1 * 2 ^ (m % 64)) % 2 ^ 64)) 0 h, one-shl (m % 64) 64 (omega arith), bit-or (getD ws (m / 64) 0) (2 ^ (m % 64)) (k % 64), bit-one (k % 64) (m % 64))
-        (ap (λ b. bit (getD ws (m / 64) 0) (k % 64) || b) (same-test (k % 64) (m % 64) k m (λ f. omega arith) (λ f. omega arith))))
-    | inr ne ↦ (
-        rw (getD-set-other, ne-eqb k m (λ f. ne (ap (λ v. v / 64) f))) (sym (or-false _)))
+  | inl e ↦ (
+      rw (e, getD-set-same ws (m / 64) (bitOr (getD ws (m / 64) 0) ((1 * 2 ^ (m % 64)) % 2 ^ 64)) 0 h, one-shl (m % 64) 64 (omega arith), bit-or (getD ws (m / 64) 0) (2 ^ (m % 64)) (k % 64), bit-one (k % 64) (m % 64))
+      (ap (λ b. bit (getD ws (m / 64) 0) (k % 64) || b) (same-test (k % 64) (m % 64) k m (λ f. omega arith) (λ f. omega arith))))
+  | inr ne ↦ (
+      rw (getD-set-other, ne-eqb k m (λ f. ne (ap (λ v. v / 64) f))) (sym (or-false _)))
 ]
 
 -- the same where it is told
@@ -98,10 +98,10 @@ bit-told false w k = let z : 0 / 2 ^ k ≡ 0 = div-eq-of-lt (pow-pos k) in ne-eq
 -- the bit j of a word, spread over all bits of another
 pub spread : (w j : ℕ) → (0 + (2 ^ 64 - bitAnd (w / 2 ^ j) 1)) % 2 ^ 64 ≡ cond (bit w j) (2 ^ 64 - 1) 0
 spread w j = elim (cases-eq (w / 2 ^ j % 2) 1) [
-    inl e ↦ rw (bit-low (w / 2 ^ j), e) refl
-    | inr ne ↦ (
-        let z : w / 2 ^ j % 2 ≡ 0 = omega arith in
-        rw (bit-low (w / 2 ^ j), z) refl)
+  | inl e ↦ rw (bit-low (w / 2 ^ j), e) refl
+  | inr ne ↦ (
+      let z : w / 2 ^ j % 2 ≡ 0 = omega arith in
+      rw (bit-low (w / 2 ^ j), z) refl)
 ]
 
 follow-four : (a b : List ℕ) (mask i : ℕ) → i < 4
@@ -139,8 +139,8 @@ bit-none a = ap (λ v. eqb (v % 2) 1) (div-one a)
 
 low-le : (a b : ℕ) → (bit a 0 ≡ true → bit b 0 ≡ true) → a % 2 ≤ b % 2
 low-le a b h = elim (cases-eq (a % 2) 1) [
-    inl e ↦ omega (arith, eqb-true (b % 2) 1 (sym (bit-none b) ∙ h (bit-none a ∙ eq-eqb (a % 2) 1 e)))
-    | inr ne ↦ omega arith
+  | inl e ↦ omega (arith, eqb-true (b % 2) 1 (sym (bit-none b) ∙ h (bit-none a ∙ eq-eqb (a % 2) 1 e)))
+  | inr ne ↦ omega arith
 ]
 
 pub or-within : (w a b : ℕ) → a < 2 ^ w → ((k : ℕ) → k < w → bit a k ≡ true → bit b k ≡ true) → bitOr a b ≡ b
@@ -163,14 +163,14 @@ within-or a b k e h = ap (λ v. bit v k) (sym e) ∙ bit-or a b k ∙ or-left (b
 
 pair-of : (v : ℕ) → v % 4 ≡ pair (eqb (v % 2) 1) (eqb (v / 2 % 2) 1)
 pair-of v = elim (cases-eq (v % 2) 1) [
-    inl e ↦ elim (cases-eq (v / 2 % 2) 1) [
-        inl f ↦ rw (eq-eqb (v % 2) 1 e, eq-eqb (v / 2 % 2) 1 f) (omega arith)
-        | inr f ↦ rw (eq-eqb (v % 2) 1 e, ne-eqb (v / 2 % 2) 1 f) (omega arith)
-    ]
-    | inr e ↦ elim (cases-eq (v / 2 % 2) 1) [
-        inl f ↦ rw (ne-eqb (v % 2) 1 e, eq-eqb (v / 2 % 2) 1 f) (omega arith)
-        | inr f ↦ rw (ne-eqb (v % 2) 1 e, ne-eqb (v / 2 % 2) 1 f) (omega arith)
-    ]
+  | inl e ↦ elim (cases-eq (v / 2 % 2) 1) [
+    | inl f ↦ rw (eq-eqb (v % 2) 1 e, eq-eqb (v / 2 % 2) 1 f) (omega arith)
+    | inr f ↦ rw (eq-eqb (v % 2) 1 e, ne-eqb (v / 2 % 2) 1 f) (omega arith)
+  ]
+  | inr e ↦ elim (cases-eq (v / 2 % 2) 1) [
+    | inl f ↦ rw (ne-eqb (v % 2) 1 e, eq-eqb (v / 2 % 2) 1 f) (omega arith)
+    | inr f ↦ rw (ne-eqb (v % 2) 1 e, ne-eqb (v / 2 % 2) 1 f) (omega arith)
+  ]
 ]
 
 -- two neighbouring bits of a word, as one number

@@ -26,10 +26,10 @@ module _ (t u : ℕ → ℕ → Bool) (p q : ℕ) (hp : p < 256) (hq : q < 256) 
   pub grown-known : t p q ≡ true → Same t (grown t p q)
   grown-known h x y hx hy = same-bool (t x y) (grown t p q x y) (λ e. or-left (t x y) (t x p && t q y) e)
       (λ e. elim (or-cases (t x y) (t x p && t q y) e) [
-          inl a ↦ a
-          | inr b ↦ (
-              let c = and-parts (t x p) (t q y) b in
-              joins (x, p, y) (hx, hp, hy, c .0, joins (p, q, y) (hp, hq, hy, h, c .1)))
+        | inl a ↦ a
+        | inr b ↦ (
+            let c = and-parts (t x p) (t q y) b in
+            joins (x, p, y) (hx, hp, hy, c .0, joins (p, q, y) (hp, hq, hy, h, c .1)))
       ])
 
   pub grown-selfs : Same u (grown t p q) → Selfs t → Selfs u

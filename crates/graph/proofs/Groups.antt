@@ -38,8 +38,8 @@ placed-last rs ls l x g = (l, (in-last ls l, g))
 
 pub placed-cases : (rs : List Row) (ls : List ℕ) (l x : ℕ) → Placed rs (ls ++ l ∷ []) x → Placed rs ls x ⊎ SameGroup rs l x
 placed-cases rs ls l x p = elim (in-cases (p .0) ls l (p .1 .0)) [
-    inl h ↦ inl (p .0, (h, p .1 .1))
-    | inr e ↦ inr (subst (λ v. SameGroup rs v x) e (p .1 .1))
+  | inl h ↦ inl (p .0, (h, p .1 .1))
+  | inr e ↦ inr (subst (λ v. SameGroup rs v x) e (p .1 .1))
 ]
 
 -- whether two moments below n share a group
@@ -65,8 +65,9 @@ module _ (n : ℕ) (rs : List Row) (own : all-fit n rs ≡ true) (few : n ≤ 25
 
   pub decides-grouped : (l v : ℕ) → v < n → Decides (grouped n t l v) (SameGroup rs l v)
   decides-grouped l v hv = (
-      (λ e. let p = and-parts (ltb l n) (t l v && t v l) e in decides-same l v (ltb-true l n (p .0)) hv .0 (p .1)),
-      (λ g. let hl = path-inside n rs own (g .0) hv in and-from (ltb l n) (t l v && t v l) (lt-ltb l n hl) (decides-same l v hl hv .1 g)))
+    (λ e. let p = and-parts (ltb l n) (t l v && t v l) e in decides-same l v (ltb-true l n (p .0)) hv .0 (p .1)),
+    (λ g. let hl = path-inside n rs own (g .0) hv in and-from (ltb l n) (t l v && t v l) (lt-ltb l n hl) (decides-same l v hl hv .1 g)),
+  )
 
   pub decides-placed : (ls : List ℕ) (v : ℕ) → v < n → Decides (seated n t ls v) (Placed rs ls v)
   decides-placed [] v hv = ((λ e. absurd (true≢false (sym e))), (λ p. absurd (p .1 .0)))
@@ -76,6 +77,6 @@ module _ (n : ℕ) (rs : List Row) (own : all-fit n rs ≡ true) (few : n ≤ 25
 
   pub placed-or-not : (ls : List ℕ) (v : ℕ) → v < n → Placed rs ls v ⊎ (Placed rs ls v → ⊥)
   placed-or-not ls v hv = elim (cases-bool (seated n t ls v)) [
-      inl e ↦ inl (decides-placed ls v hv .0 e)
-      | inr e ↦ inr (not-from-decides (seated n t ls v) (decides-placed ls v hv) e)
+    | inl e ↦ inl (decides-placed ls v hv .0 e)
+    | inr e ↦ inr (not-from-decides (seated n t ls v) (decides-placed ls v hv) e)
   ]

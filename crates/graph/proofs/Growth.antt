@@ -24,11 +24,12 @@ pub change-more : (old cur : List Moments) (told : ℕ → ℕ → Bool) (i : �
     → ((y : ℕ) → y < 256 → holds row y ≡ told i y)
     → Changed old told (i + 1) (set cur i row)
 change-more old cur told i row inv l is = (
-    (λ x hx y hy. elim (cases-eq x i) [
-        inl e ↦ subst (λ v. reaches (set cur i row) v y ≡ told v y) (sym e) (ap (λ r. holds r y) (getD-set-same cur i row none l) ∙ is y hy)
-        | inr ne ↦ rw (getD-set-other cur i x row none ne) (inv .0 x (omega arith) y hy)
-    ]),
-    (λ x hx. let ne : x ≢ i = omega arith in rw (getD-set-other cur i x row none ne) (inv .1 x (omega arith))))
+  (λ x hx y hy. elim (cases-eq x i) [
+    | inl e ↦ subst (λ v. reaches (set cur i row) v y ≡ told v y) (sym e) (ap (λ r. holds r y) (getD-set-same cur i row none l) ∙ is y hy)
+    | inr ne ↦ rw (getD-set-other cur i x row none ne) (inv .0 x (omega arith) y hy)
+  ]),
+  (λ x hx. let ne : x ≢ i = omega arith in rw (getD-set-other cur i x row none ne) (inv .1 x (omega arith))),
+)
 
 and-false : (b : Bool) → (b && false) ≡ false
 and-false true = refl
@@ -43,9 +44,9 @@ pub put-row : (rows : List Moments) (told : Bool) (p q : ℕ) (row : Moments) �
     → ((y : ℕ) → y < 256 → holds row y ≡ (holds (getD rows p none) y || (told && eqb y q)))
     → (x y : ℕ) → y < 256 → reaches (set rows p row) x y ≡ put told (reaches rows) p q x y
 put-row rows told p q row l is x y hy = elim (cases-eq x p) [
-    inl e ↦ subst (λ v. reaches (set rows p row) v y ≡ put told (reaches rows) p q v y) (sym e)
-        (ap (λ r. holds r y) (getD-set-same rows p row none l) ∙ is y hy ∙ rw (eq-eqb p p refl) refl)
-    | inr ne ↦ ap (λ r. holds r y) (getD-set-other rows p x row none ne) ∙ sym (rw (ne-eqb x p ne, and-false told) (or-false (reaches rows x y)))
+  | inl e ↦ subst (λ v. reaches (set rows p row) v y ≡ put told (reaches rows) p q v y) (sym e)
+      (ap (λ r. holds r y) (getD-set-same rows p row none l) ∙ is y hy ∙ rw (eq-eqb p p refl) refl)
+  | inr ne ↦ ap (λ r. holds r y) (getD-set-other rows p x row none ne) ∙ sym (rw (ne-eqb x p ne, and-false told) (or-false (reaches rows x y)))
 ]
 
 -- a row takes one of four sets, by which of two moments it has

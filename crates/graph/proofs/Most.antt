@@ -36,8 +36,11 @@ out-of j js h = elim (cases-bool (within js j)) [ inl e ↦ absurd (h (decides-i
 
 counted : (k : ℕ) (js : List ℕ) → ((j : ℕ) → In j js → j < k) → Apart js → length js ≤ count (within js) k
 counted k [] below apart = omega arith
-counted k (j ∷ js) below apart = omega (arith, counted k js (λ i h. below i (inr h)) (apart .1),
-    count-lt (within js) (within (j ∷ js)) k j (below j (inl refl)) (out-of j js (apart .0)) (decides-in j (j ∷ js) .1 (inl refl)) (λ i _ e. or-right (eqb i j) (within js i) e))
+counted k (j ∷ js) below apart = omega (
+  arith,
+  counted k js (λ i h. below i (inr h)) (apart .1),
+  count-lt (within js) (within (j ∷ js)) k j (below j (inl refl)) (out-of j js (apart .0)) (decides-in j (j ∷ js) .1 (inl refl)) (λ i _ e. or-right (eqb i j) (within js i) e),
+)
 
 -- a list of separate numbers below k has at most k of them
 pub at-most : (k : ℕ) (js : List ℕ) → ((j : ℕ) → In j js → j < k) → Apart js → length js ≤ k

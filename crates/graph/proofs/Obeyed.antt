@@ -70,13 +70,13 @@ pub seats-spread : (n : ℕ) (rs : List Row) → all-fit n rs ≡ true → n ≤
     → (ls : List ℕ) → Sequence n rs ls → (es : List Entry) → ((m : ℕ) → m < n → Seated rs ls m (getD es m blank))
     → Spread n rs (λ m. getD es m blank .place)
 seats-spread n rs own few t tells ls q es seats = record {
-    up = λ x y hx hy p. (
-        let a = seats x hx in
-        let b = seats y hy in
-        let back = sits-back n rs own few t tells q x y (getD es y blank .place - 1) p (sits y hy) in
-        let same = sits-once n rs q x (back .0) (getD es x blank .place - 1) (back .1 .1) (sits x hx) in
-        omega (arith, a .1, b .1, back .1 .0, same));
-    one = λ x y hx hy e. sits-together rs ls x y (getD es x blank .place - 1) (sits x hx) (subst (λ v. Sits rs ls y (v - 1)) (sym e) (sits y hy))
+  up = λ x y hx hy p. (
+      let a = seats x hx in
+      let b = seats y hy in
+      let back = sits-back n rs own few t tells q x y (getD es y blank .place - 1) p (sits y hy) in
+      let same = sits-once n rs q x (back .0) (getD es x blank .place - 1) (back .1 .1) (sits x hx) in
+      omega (arith, a .1, b .1, back .1 .0, same));
+  one = λ x y hx hy e. sits-together rs ls x y (getD es x blank .place - 1) (sits x hx) (subst (λ v. Sits rs ls y (v - 1)) (sym e) (sits y hy));
 }
   where
     sits : (m : ℕ) → m < n → Sits rs ls m (getD es m blank .place - 1)

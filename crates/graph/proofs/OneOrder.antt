@@ -26,8 +26,8 @@ turns-same n rs (turn {placed = a} {l = l} p r lowest) (turn {placed = b} {l = k
 before-turn : (n : ℕ) (rs : List Row) {b : List ℕ} → Turns n rs b → (k : ℕ) → k < length b → (c : List ℕ) × (l : ℕ) × (Turns n rs c × (length c ≡ k) × Ready n rs c l)
 before-turn n rs start k h = absurd (omega arith)
 before-turn n rs (turn {placed = b} {l = l} q w low) k h = elim (cases-eq k (length b)) [
-    inl e ↦ (b, l, (q, sym e, w))
-    | inr ne ↦ before-turn n rs q k (omega (arith, h, ne, length-push b l))
+  | inl e ↦ (b, l, (q, sym e, w))
+  | inr ne ↦ before-turn n rs q k (omega (arith, h, ne, length-push b l))
 ]
 
 -- turns that have placed all are not outlasted
@@ -39,7 +39,7 @@ not-longer n rs a b all q h =
 
 pub one-sequence : (n : ℕ) (rs : List Row) → OneSequence n rs
 one-sequence n rs a b p q = elim (cases-order (length a) (length b)) [
-    inl e ↦ turns-same n rs (p .0) (q .0) e
-    | inr (inl lt) ↦ absurd (not-longer n rs a b p (q .0) lt)
-    | inr (inr gt) ↦ absurd (not-longer n rs b a q (p .0) gt)
+  | inl e ↦ turns-same n rs (p .0) (q .0) e
+  | inr (inl lt) ↦ absurd (not-longer n rs a b p (q .0) lt)
+  | inr (inr gt) ↦ absurd (not-longer n rs b a q (p .0) gt)
 ]

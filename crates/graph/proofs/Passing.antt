@@ -18,12 +18,12 @@ within-split : (E : ℕ → ℕ → Type 0) (k : ℕ) {x y : ℕ} → Within E (
 within-split E k here = inl here
 within-split E k (last e) = inl (last e)
 within-split E k (more {x = x} {y = m} {z = z} e h r) = elim (cases-eq m k) [
-    inl is ↦ (
-        let to : Within E k x k = last (subst (λ v. E x v) is e) in
-        elim (within-split E k r) [ inl a ↦ inr (to, subst (λ v. Within E k v z) is a) | inr b ↦ inr (to, b .1) ])
-    | inr ne ↦ (
-        let below : m < k = omega arith in
-        elim (within-split E k r) [ inl a ↦ inl (more e below a) | inr b ↦ inr (more e below (b .0), b .1) ])
+  | inl is ↦ (
+      let to : Within E k x k = last (subst (λ v. E x v) is e) in
+      elim (within-split E k r) [ inl a ↦ inr (to, subst (λ v. Within E k v z) is a) | inr b ↦ inr (to, b .1) ])
+  | inr ne ↦ (
+      let below : m < k = omega arith in
+      elim (within-split E k r) [ inl a ↦ inl (more e below a) | inr b ↦ inr (more e below (b .0), b .1) ])
 ]
 
 within-on : (E : ℕ → ℕ → Type 0) (k j : ℕ) {x m z : ℕ} → k ≤ j → m < j → Within E k x m → Within E j m z → Within E j x z
@@ -70,11 +70,11 @@ unfolding Met
 meet E k here = inl here
 meet E k (last e) = inl (last e)
 meet E k (more {x = x} {y = m} {z = z} e h r) = elim (cases-eq m k) [
-    inl is ↦ inr (inl (last (subst (λ v. E x v) is e), subst (λ v. Within E (k + 2) v z) is r))
-    | inr ne ↦ elim (cases-eq m (k + 1)) [
-        inl is ↦ inr (inr (last (subst (λ v. E x v) is e), subst (λ v. Within E (k + 2) v z) is r))
-        | inr ne-next ↦ meet-more E k x m z e (omega arith) (meet E k r)
-    ]
+  | inl is ↦ inr (inl (last (subst (λ v. E x v) is e), subst (λ v. Within E (k + 2) v z) is r))
+  | inr ne ↦ elim (cases-eq m (k + 1)) [
+    | inl is ↦ inr (inr (last (subst (λ v. E x v) is e), subst (λ v. Within E (k + 2) v z) is r))
+    | inr ne-next ↦ meet-more E k x m z e (omega arith) (meet E k r)
+  ]
 ]
 
 unmeet : (E : ℕ → ℕ → Type 0) (k : ℕ) {x y : ℕ} → Met E k x y → Within E (k + 2) x y
@@ -94,9 +94,9 @@ within-pair t u a b rs k l b-is a-is u-is tells x y hx hy =
     let E = Step rs in
     let hk : k < 256 = omega arith in
     let b-once : (z : ℕ) → z < 256 → Decides (b z) (Within E (k + 1) (k + 1) z) = λ z hz.
-        decides-at (b z) _ (b-is z hz) (within-at E k (k + 1) z (t (k + 1) z) (t (k + 1) k) (t k z) (tells (k + 1) z l hz) (tells (k + 1) k l hk) (tells k z hk hz)) in
+    decides-at (b z) _ (b-is z hz) (within-at E k (k + 1) z (t (k + 1) z) (t (k + 1) k) (t k z) (tells (k + 1) z l hz) (tells (k + 1) k l hk) (tells k z hk hz)) in
     let a-twice : Decides (a y) (Within E ((k + 1) + 1) k y) =
-        decides-at (a y) _ (a-is y hy) (within-at E (k + 1) k y (t k y) (t k (k + 1)) (b y) (own-turn E k y (t k y) (tells k y hk hy)) (own-turn E k (k + 1) (t k (k + 1)) (tells k (k + 1) hk l)) (b-once y hy)) in
+    decides-at (a y) _ (a-is y hy) (within-at E (k + 1) k y (t k y) (t k (k + 1)) (b y) (own-turn E k y (t k y) (tells k y hk hy)) (own-turn E k (k + 1) (t k (k + 1)) (tells k (k + 1) hk l)) (b-once y hy)) in
     let two : (k + 1) + 1 ≡ k + 2 = omega arith in
     let a-all = subst (λ j. Decides (a y) (Within E j k y)) two a-twice in
     let b-all = subst (λ j. Decides (b y) (Within E j (k + 1) y)) two (own-turn E (k + 1) y (b y) (b-once y hy)) in

@@ -42,21 +42,22 @@ pub record State (n : ℕ) (rs : List Row) (old new : List Entry) (marked : ℕ 
 
 pub state-start : (n : ℕ) (rs : List Row) (es : List Entry) (marked : ℕ → Bool) → ((v : ℕ) → v < 256 → marked v ≡ false) → State n rs es es marked 0
 state-start n rs es marked none = record {
-    placed = [];
-    turns = start;
-    long = refl;
-    marks = λ v hv. ((λ e. absurd (both-ways (marked v) (none v hv) e)), (λ p. absurd (p .1 .0)));
-    seats = λ m hm p. absurd (p .1 .0);
-    rest = (refl, λ k h e. refl);
-    left = omega (arith, count-bound (λ v. not (marked v)) n)
+  placed = [];
+  turns = start;
+  long = refl;
+  marks = λ v hv. ((λ e. absurd (both-ways (marked v) (none v hv) e)), (λ p. absurd (p .1 .0)));
+  seats = λ m hm p. absurd (p .1 .0);
+  rest = (refl, λ k h e. refl);
+  left = omega (arith, count-bound (λ v. not (marked v)) n);
 }
 
 -- the entry of a leader's group
 pub seated-last : (rs : List Row) (ls : List ℕ) (l x places : ℕ) → length ls ≡ places → Leads rs l l → SameGroup rs l x → Seated rs (ls ++ l ∷ []) x (record { place = places + 1; leader = l })
 seated-last rs ls l x places long leads g = (
-    (group-turned rs l x g, λ k h. leads .1 k (group-join rs l x k g h)),
-    omega arith,
-    subst (λ v. nth (ls ++ l ∷ []) v ≡ Some l) (omega (arith, long)) (nth-last ls l))
+  (group-turned rs l x g, λ k h. leads .1 k (group-join rs l x k g h)),
+  omega arith,
+  subst (λ v. nth (ls ++ l ∷ []) v ≡ Some l) (omega (arith, long)) (nth-last ls l),
+)
 
 -- an entry stays when one more leader has a place
 pub seated-more : (rs : List Row) (ls : List ℕ) (l x : ℕ) (e : Entry) → Seated rs ls x e → Seated rs (ls ++ l ∷ []) x e
@@ -88,8 +89,8 @@ module _ (n : ℕ) (rs : List Row) (own : all-fit n rs ≡ true) (few : n ≤ 25
         where
           still : (v : ℕ) → v < 256 → more v ≡ false → marked v ≡ false
           still v hv e = elim (cases-bool (marked v)) [
-              inl h ↦ absurd (both-ways (more v) e (is v hv ∙ or-left (marked v) (ltb v n && (t m v && t v m)) h))
-              | inr h ↦ h
+            | inl h ↦ absurd (both-ways (more v) e (is v hv ∙ or-left (marked v) (ltb v n && (t m v && t v m)) h))
+            | inr h ↦ h
           ]
 
       seats-now : (x : ℕ) → x < n → Placed rs (s .placed ++ m ∷ []) x → Seated rs (s .placed ++ m ∷ []) x (getD later x blank)
@@ -97,22 +98,22 @@ module _ (n : ℕ) (rs : List Row) (own : all-fit n rs ≡ true) (few : n ≤ 25
           let d = decides-same n rs own few t tells m x hm hx in
           let e : Entry = record { place = places + 1; leader = m } in
           elim (cases-bool (t m x && t x m)) [
-              inl h ↦ subst (λ v. Seated rs (s .placed ++ m ∷ []) x v) (sym (written .1 x hx blank ∙ cond-true (t m x && t x m) e (getD new x blank) h))
-                  (seated-last rs (s .placed) m x places (s .long) (ready .1) (d .0 h))
-              | inr h ↦ subst (λ v. Seated rs (s .placed ++ m ∷ []) x v) (sym (written .1 x hx blank ∙ cond-false (t m x && t x m) e (getD new x blank) h))
-                  (elim (placed-cases rs (s .placed) m x p) [
-                      inl q ↦ seated-more rs (s .placed) m x (getD new x blank) (s .seats x hx q)
-                      | inr g ↦ absurd (both-ways (t m x && t x m) h (d .1 g))
-                  ])
+            | inl h ↦ subst (λ v. Seated rs (s .placed ++ m ∷ []) x v) (sym (written .1 x hx blank ∙ cond-true (t m x && t x m) e (getD new x blank) h))
+                (seated-last rs (s .placed) m x places (s .long) (ready .1) (d .0 h))
+            | inr h ↦ subst (λ v. Seated rs (s .placed ++ m ∷ []) x v) (sym (written .1 x hx blank ∙ cond-false (t m x && t x m) e (getD new x blank) h))
+                (elim (placed-cases rs (s .placed) m x p) [
+                  | inl q ↦ seated-more rs (s .placed) m x (getD new x blank) (s .seats x hx q)
+                  | inr g ↦ absurd (both-ways (t m x && t x m) h (d .1 g))
+                ])
           ]
 
       pub state-turn : State n rs old later more (places + 1)
       state-turn = record {
-          placed = s .placed ++ m ∷ [];
-          turns = turn (s .turns) ready (lowest-first n rs own few t tells b back (s .placed) marked (s .marks) (sequence-closed n rs own few t tells (turns-sequence n rs (s .turns))) m low);
-          long = omega (arith, length-push (s .placed) m, s .long);
-          marks = marks-now;
-          seats = seats-now;
-          rest = (written .0 ∙ s .rest .0, λ k h e. written .2 k h e ∙ s .rest .1 k h e);
-          left = omega (arith, s .left, state-fewer)
+        placed = s .placed ++ m ∷ [];
+        turns = turn (s .turns) ready (lowest-first n rs own few t tells b back (s .placed) marked (s .marks) (sequence-closed n rs own few t tells (turns-sequence n rs (s .turns))) m low);
+        long = omega (arith, length-push (s .placed) m, s .long);
+        marks = marks-now;
+        seats = seats-now;
+        rest = (written .0 ∙ s .rest .0, λ k h e. written .2 k h e ∙ s .rest .1 k h e);
+        left = omega (arith, s .left, state-fewer);
       }

@@ -105,13 +105,13 @@ module _ (t : ℕ → ℕ → Bool) (selfs : Selfs t) (joins : Joins t) where
 
     apart : t (r .0) (r .2) ≡ false → t (r .2) (r .0) ≡ false → Obeys (ranked t) r
     apart e f = elim (cases-order (rank t (r .0) * 256 + lowest t (r .0)) (rank t (r .2) * 256 + lowest t (r .2))) [
-        inl eq ↦ (
-            let a = lowest-found (r .0) hx in
-            let b = lowest-found (r .2) hy in
-            let l : lowest t (r .0) ≡ lowest t (r .2) = omega arith in
-            absurd (both-ways (t (r .0) (r .2)) e (one-lowest (r .0) (r .2) hx hy l)))
-        | inr (inl lt) ↦ obeys-by (ranked t) r Before (pos-lt _ _ lt) (has-before f)
-        | inr (inr gt) ↦ obeys-by (ranked t) r After (pos-lt _ _ gt) (has-after e)
+      | inl eq ↦ (
+          let a = lowest-found (r .0) hx in
+          let b = lowest-found (r .2) hy in
+          let l : lowest t (r .0) ≡ lowest t (r .2) = omega arith in
+          absurd (both-ways (t (r .0) (r .2)) e (one-lowest (r .0) (r .2) hx hy l)))
+      | inr (inl lt) ↦ obeys-by (ranked t) r Before (pos-lt _ _ lt) (has-before f)
+      | inr (inr gt) ↦ obeys-by (ranked t) r After (pos-lt _ _ gt) (has-after e)
     ]
 
     by-reach : (a b : Bool) → t (r .0) (r .2) ≡ a → t (r .2) (r .0) ≡ b → Obeys (ranked t) r

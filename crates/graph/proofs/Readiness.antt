@@ -24,9 +24,10 @@ Eligible n rs ls m =
 -- the moments of a group are eligible together
 pub eligible-group : (n : ℕ) (rs : List Row) → all-fit n rs ≡ true → (ls : List ℕ) (m k : ℕ) → SameGroup rs m k → Eligible n rs ls m → Eligible n rs ls k
 eligible-group n rs own ls m k g e = (
-    path-inside n rs own (g .1) (e .0),
-    (λ p. e .1 (placed-group rs ls k m (group-turned rs m k g) p)),
-    (λ v p un. path-join (g .1) (e .2 v (path-join p (g .1)) un)))
+  path-inside n rs own (g .1) (e .0),
+  (λ p. e .1 (placed-group rs ls k m (group-turned rs m k g) p)),
+  (λ v p un. path-join (g .1) (e .2 v (path-join p (g .1)) un)),
+)
 
 -- an eligible moment that leads its group is ready
 pub eligible-ready : (n : ℕ) (rs : List Row) (ls : List ℕ) (l : ℕ) → Eligible n rs ls l → Leads rs l l → Ready n rs ls l
@@ -53,9 +54,10 @@ module _ (n : ℕ) (rs : List Row) (own : all-fit n rs ≡ true) (few : n ≤ 25
 
   pub leader-leads : (x : ℕ) → x < n → Leads rs (leader n t x) x
   leader-leads x hx =
-      let f = first-found (λ z. t x z && t z x) n x hx (decides-same n rs own few t tells x x hx hx .1 (group-self rs x)) in
-      (decides-same n rs own few t tells x (leader n t x) hx (omega arith) .0 (f .1),
-      (λ k g. let hk = path-inside n rs own (g .1) hx in first-found (λ z. t x z && t z x) n k hk (decides-same n rs own few t tells x k hx hk .1 g) .0))
+      let f = first-found (λ z. t x z && t z x) n x hx (decides-same n rs own few t tells x x hx hx .1 (group-self rs x)) in (
+        decides-same n rs own few t tells x (leader n t x) hx (omega arith) .0 (f .1),
+        (λ k g. let hk = path-inside n rs own (g .1) hx in first-found (λ z. t x z && t z x) n k hk (decides-same n rs own few t tells x k hx hk .1 g) .0),
+      )
 
   -- the leader of an eligible moment is ready
   pub leader-ready : (ls : List ℕ) (m : ℕ) → Eligible n rs ls m → Ready n rs ls (leader n t m)
@@ -67,17 +69,24 @@ module _ (n : ℕ) (rs : List Row) (own : all-fit n rs ≡ true) (few : n ≤ 25
 
   -- of the moments without a place, one that the fewest moments reach is eligible
   least-eligible : (ls : List ℕ) → Least (λ x. not (seated n t ls x)) (rank n t) n → (m : ℕ) × Eligible n rs ls m
-  least-eligible ls (m, hm, un, low) = (m, (hm, decides-not (seated n t ls m) (decides-placed n rs own few t tells ls m hm) .0 un, λ v p free.
-      let hv = path-inside n rs own p hm in
-      elim (cases-bool (t m v)) [
-          inl e ↦ told m v hm hv e
-          | inr e ↦ absurd (omega (arith, rank-lt v m hv hm p e, low v hv (decides-not (seated n t ls v) (decides-placed n rs own few t tells ls v hv) .1 free)))
-      ]))
+  least-eligible ls (m, hm, un, low) = (
+    m,
+    (
+      hm,
+      decides-not (seated n t ls m) (decides-placed n rs own few t tells ls m hm) .0 un,
+      λ v p free.
+          let hv = path-inside n rs own p hm in
+          elim (cases-bool (t m v)) [
+            | inl e ↦ told m v hm hv e
+            | inr e ↦ absurd (omega (arith, rank-lt v m hv hm p e, low v hv (decides-not (seated n t ls v) (decides-placed n rs own few t tells ls v hv) .1 free)))
+          ],
+    ),
+  )
 
   pub one-eligible : (ls : List ℕ) (m : ℕ) → m < n → (Placed rs ls m → ⊥) → (l : ℕ) × Eligible n rs ls l
   one-eligible ls m hm un = elim (least (λ x. not (seated n t ls x)) (rank n t) n) [
-      inl none ↦ absurd (both-ways (not (seated n t ls m)) (none m hm) (decides-not (seated n t ls m) (decides-placed n rs own few t tells ls m hm) .1 un))
-      | inr low ↦ least-eligible ls low
+    | inl none ↦ absurd (both-ways (not (seated n t ls m)) (none m hm) (decides-not (seated n t ls m) (decides-placed n rs own few t tells ls m hm) .1 un))
+    | inr low ↦ least-eligible ls low
   ]
 
   pub one-ready : OneReady n rs

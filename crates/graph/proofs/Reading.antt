@@ -81,9 +81,9 @@ to-added : (rs : List Row) (r : Row) (x y : ℕ) → (x ≡ y) ⊎ Step (rs ++ r
 unfolding Added
 to-added rs r x y (inl e) = inl (inl (inl e))
 to-added rs r x y (inr s) = elim (step-pop rs r x y s) [
-    inl (inl h) ↦ inl (inr (not-from-false (has (r .1) After) (h .2), (sym (h .0), sym (h .1))))
-    | inl (inr h) ↦ inr (not-from-false (has (r .1) Before) (h .2), (sym (h .0), sym (h .1)))
-    | inr h ↦ inl (inl (inr h))
+  | inl (inl h) ↦ inl (inr (not-from-false (has (r .1) After) (h .2), (sym (h .0), sym (h .1))))
+  | inl (inr h) ↦ inr (not-from-false (has (r .1) Before) (h .2), (sym (h .0), sym (h .1)))
+  | inr h ↦ inl (inl (inr h))
 ]
 
 from-added : (rs : List Row) (r : Row) (x y : ℕ) → Added rs r x y → (x ≡ y) ⊎ Step (rs ++ r ∷ []) x y

@@ -48,8 +48,8 @@ sits-last rs ls l m g = (l, (nth-last ls l, g))
 
 pub sits-cases : (rs : List Row) (ls : List ℕ) (l m j : ℕ) → Sits rs (ls ++ l ∷ []) m j → Sits rs ls m j ⊎ ((j ≡ length ls) × SameGroup rs l m)
 sits-cases rs ls l m j s = elim (nth-cases ls l j (s .0) (s .1 .0)) [
-    inl h ↦ inl (s .0, (h, s .1 .1))
-    | inr h ↦ inr (h .0, subst (λ v. SameGroup rs v m) (h .1) (s .1 .1))
+  | inl h ↦ inl (s .0, (h, s .1 .1))
+  | inr h ↦ inr (h .0, subst (λ v. SameGroup rs v m) (h .1) (s .1 .1))
 ]
 
 -- moments at one place share a group
@@ -67,34 +67,38 @@ module _ (n : ℕ) (rs : List Row) (own : all-fit n rs ≡ true) (few : n ≤ 25
   pub enters : (ls : List ℕ) (l : ℕ) → Closed rs ls → Ready n rs ls l → {x y : ℕ} → Path (Step rs) x y → SameGroup rs y l → Placed rs ls x ⊎ SameGroup rs x l
   enters ls l closed ready stay g = inr g
   enters ls l closed ready (onward {x = x} {y = y} s p) g = elim (enters ls l closed ready p g) [
-      inl h ↦ inl (closed x y (onward s stay) h)
-      | inr h ↦ elim (placed-or-not n rs own few t tells ls x (step-inside n rs own x y s .0)) [
-          inl i ↦ inl i
-          | inr un ↦ inr (ready .3 x y s h un)
-      ]
+    | inl h ↦ inl (closed x y (onward s stay) h)
+    | inr h ↦ elim (placed-or-not n rs own few t tells ls x (step-inside n rs own x y s .0)) [
+      | inl i ↦ inl i
+      | inr un ↦ inr (ready .3 x y s h un)
+    ]
   ]
 
   -- a ready leader is eligible
   pub ready-eligible : (ls : List ℕ) (l : ℕ) → Closed rs ls → Ready n rs ls l → Eligible n rs ls l
-  ready-eligible ls l closed ready = (ready .0, ready .2, λ v p un. elim (enters ls l closed ready p (group-self rs l)) [
-      inl h ↦ absurd (un h)
+  ready-eligible ls l closed ready = (
+    ready .0,
+    ready .2,
+    λ v p un. elim (enters ls l closed ready p (group-self rs l)) [
+      | inl h ↦ absurd (un h)
       | inr g ↦ g .1
-  ])
+    ],
+  )
 
   -- who reaches a moment sits no later than it
   pub sits-back : {ls : List ℕ} → Sequence n rs ls → (x y j : ℕ) → Path (Step rs) x y → Sits rs ls y j → (i : ℕ) × ((i ≤ j) × Sits rs ls x i)
   sits-back begin x y j p s = absurd (sits-placed rs [] y j s .1 .0)
   sits-back (next {placed = ls} {l = l} q ready) x y j p s =
       let closed : Closed rs ls = λ a b w h. (
-          let r = placed-sits rs ls b h in
-          let k = sits-back q a b (r .0) w (r .1) in
-          sits-placed rs ls a (k .0) (k .1 .1)) in
+      let r = placed-sits rs ls b h in
+      let k = sits-back q a b (r .0) w (r .1) in
+      sits-placed rs ls a (k .0) (k .1 .1)) in
       elim (sits-cases rs ls l y j s) [
-          inl h ↦ (let k = sits-back q x y j p h in (k .0, (k .1 .0, sits-more rs ls l x (k .0) (k .1 .1))))
-          | inr h ↦ elim (enters ls l closed ready p (group-turned rs l y (h .1))) [
-              inl w ↦ (let k = placed-sits rs ls x w in (k .0, (omega (arith, sits-below rs ls x (k .0) (k .1), h .0), sits-more rs ls l x (k .0) (k .1))))
-              | inr g ↦ (length ls, (omega (arith, h .0), sits-last rs ls l x (group-turned rs x l g)))
-          ]
+        | inl h ↦ (let k = sits-back q x y j p h in (k .0, (k .1 .0, sits-more rs ls l x (k .0) (k .1 .1))))
+        | inr h ↦ elim (enters ls l closed ready p (group-turned rs l y (h .1))) [
+          | inl w ↦ (let k = placed-sits rs ls x w in (k .0, (omega (arith, sits-below rs ls x (k .0) (k .1), h .0), sits-more rs ls l x (k .0) (k .1))))
+          | inr g ↦ (length ls, (omega (arith, h .0), sits-last rs ls l x (group-turned rs x l g)))
+        ]
       ]
 
   pub sequence-closed : {ls : List ℕ} → Sequence n rs ls → Closed rs ls
@@ -107,12 +111,12 @@ module _ (n : ℕ) (rs : List Row) (own : all-fit n rs ≡ true) (few : n ≤ 25
 pub sits-once : (n : ℕ) (rs : List Row) {ls : List ℕ} → Sequence n rs ls → (m i j : ℕ) → Sits rs ls m i → Sits rs ls m j → i ≡ j
 sits-once n rs begin m i j a b = absurd (sits-placed rs [] m i a .1 .0)
 sits-once n rs (next {placed = ls} {l = l} q ready) m i j a b = elim (sits-cases rs ls l m i a) [
-    inl h ↦ elim (sits-cases rs ls l m j b) [
-        inl k ↦ sits-once n rs q m i j h k
-        | inr k ↦ absurd (ready .2 (let p = sits-placed rs ls m i h in (p .0, (p .1 .0, group-join rs (p .0) m l (p .1 .1) (group-turned rs l m (k .1))))))
-    ]
-    | inr h ↦ elim (sits-cases rs ls l m j b) [
-        inl k ↦ absurd (ready .2 (let p = sits-placed rs ls m j k in (p .0, (p .1 .0, group-join rs (p .0) m l (p .1 .1) (group-turned rs l m (h .1))))))
-        | inr k ↦ h .0 ∙ sym (k .0)
-    ]
+  | inl h ↦ elim (sits-cases rs ls l m j b) [
+    | inl k ↦ sits-once n rs q m i j h k
+    | inr k ↦ absurd (ready .2 (let p = sits-placed rs ls m i h in (p .0, (p .1 .0, group-join rs (p .0) m l (p .1 .1) (group-turned rs l m (k .1))))))
+  ]
+  | inr h ↦ elim (sits-cases rs ls l m j b) [
+    | inl k ↦ absurd (ready .2 (let p = sits-placed rs ls m j k in (p .0, (p .1 .0, group-join rs (p .0) m l (p .1 .1) (group-turned rs l m (h .1))))))
+    | inr k ↦ h .0 ∙ sym (k .0)
+  ]
 ]

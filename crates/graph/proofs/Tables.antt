@@ -29,8 +29,8 @@ plus-split E p q (onward {x = x} {y = y} {z = z} (inl e) r) =
 plus-split E p q (onward {x = x} {y = y} {z = z} (inr e) r) =
     let at : Path E x p = subst (λ v. Path E x v) (e .0) stay in
     elim (plus-split E p q r) [
-        inl a ↦ inr (at, subst (λ v. Path E v z) (e .1) a)
-        | inr b ↦ inr (at, b .1)
+      | inl a ↦ inr (at, subst (λ v. Path E v z) (e .1) a)
+      | inr b ↦ inr (at, b .1)
     ]
 
 plus-join : (E : ℕ → ℕ → Type 0) (p q : ℕ) {x y : ℕ} → Path E x y ⊎ (Path E x p × Path E q y) → Path (Plus E p q) x y

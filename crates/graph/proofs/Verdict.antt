@@ -50,11 +50,11 @@ module _ (t : ℕ → ℕ → Bool) (all : List Row) (tells : Tells t all) (n : 
       let e = first-ends n r rs few own in
       let d = torn-told t all r tells (e .0) (e .1) in
       elim (cases-bool (torn-by t r)) [
-          inl yes-torn ↦ inl (inl (d .0 yes-torn))
-          | inr not-torn ↦ elim (find-torn rs (rest-fit n r rs own)) [
-              inl s ↦ inl (inr s)
-              | inr free ↦ inr (λ s. elim s [ inl a ↦ not-from-decides (torn-by t r) d not-torn a | inr b ↦ free b ])
-          ]
+        | inl yes-torn ↦ inl (inl (d .0 yes-torn))
+        | inr not-torn ↦ elim (find-torn rs (rest-fit n r rs own)) [
+          | inl s ↦ inl (inr s)
+          | inr free ↦ inr (λ s. elim s [ inl a ↦ not-from-decides (torn-by t r) d not-torn a | inr b ↦ free b ])
+        ]
       ]
 
   -- the placement by ranks obeys rows none of which is torn
@@ -65,9 +65,9 @@ module _ (t : ℕ → ℕ → Bool) (all : List Row) (tells : Tells t all) (n : 
       let hx = e .0 in
       let hy = e .1 in (
         row-obeyed t (tells-selfs t all tells) (tells-joins t all tells) r hx hy
-          (λ h. tells (r .0) (r .2) hx hy .1 (onward (sub (r .0) (r .2) (inl (inl (refl, refl, h)))) stay))
-          (λ h. tells (r .2) (r .0) hy hx .1 (onward (sub (r .2) (r .0) (inl (inr (refl, refl, h)))) stay))
-          (λ h a b. free (inl (h, (tells (r .0) (r .2) hx hy .0 a, tells (r .2) (r .0) hy hx .0 b)))),
+            (λ h. tells (r .0) (r .2) hx hy .1 (onward (sub (r .0) (r .2) (inl (inl (refl, refl, h)))) stay))
+            (λ h. tells (r .2) (r .0) hy hx .1 (onward (sub (r .2) (r .0) (inl (inr (refl, refl, h)))) stay))
+            (λ h a b. free (inl (h, (tells (r .0) (r .2) hx hy .0 a, tells (r .2) (r .0) hy hx .0 b)))),
         obeyed rs (rest-fit n r rs own) (λ x y s. sub x y (inr s)) (λ s. free (inr s)),
       )
 
@@ -77,8 +77,8 @@ whole-agrees n rs few own free = (by-rank (table rs), obeyed (table rs) rs (tabl
 
 pub clash-torn : (n : ℕ) (rs : List Row) → n ≤ 256 → all-fit n rs ≡ true → Clash rs → SomeTorn rs rs
 clash-torn n rs few own clash = elim (find-torn (table rs) rs (table-tells n rs few own) n few rs own) [
-    inl s ↦ s
-    | inr free ↦ absurd (clash (whole-agrees n rs few own free))
+  | inl s ↦ s
+  | inr free ↦ absurd (clash (whole-agrees n rs few own free))
 ]
 
 pub clash-is-torn : (n : ℕ) (rs : List Row) → n ≤ 256 → all-fit n rs ≡ true → ClashIsTorn rs

@@ -10,9 +10,9 @@ ghost use Rattle.algebra.specs.declared.points.Relation.the-variants.{Before, A
 ghost use Rattle.graph.specs.Sets.{holds};
 ghost use Rattle.graph.specs.Within.{TellsWithin};
 ghost use Rattle.graph.specs.Reaching.{Inside, Joins, Selfs, Tells, TellsSteps, grown, reaches, stepped};
+use crate::moments::Moments;
 use algebra::points::Relation;
 use scene::sources::Source;
-use crate::moments::Moments;
 
 // For each of 256 moments, the set of moments that it reaches.
 #[derive(Clone, Copy)]

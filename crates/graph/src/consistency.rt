@@ -8,9 +8,9 @@ ghost use Rattle.algebra.specs.declared.points.Relation.the-variants.{Together}
 ghost use Rattle.scene.specs.Scenes.{Agree, Clash};
 ghost use Rattle.graph.specs.Clashes.{ClashIsTorn, SomeTorn};
 ghost use Rattle.graph.specs.Reaching.{Tells, reaches};
+use crate::closure::Closure;
 use algebra::points::Relation;
 use scene::sources::Source;
-use crate::closure::Closure;
 
 // Whether a row lacks together and has both ends in one group.
 fn is_torn(closure: &Closure, left: u8, set: u8, right: u8) -> bool

@@ -46,7 +46,9 @@ impl Moments {
     {
         let a = self.words;
         let b = other.words;
-        Moments { words: [a[0] | b[0], a[1] | b[1], a[2] | b[2], a[3] | b[3]] }
+        Moments {
+            words: [a[0] | b[0], a[1] | b[1], a[2] | b[2], a[3] | b[3]],
+        }
     }
 
     // Puts in the moments of another set, if the set has a given one; without a branch, for speed.
@@ -57,7 +59,12 @@ impl Moments {
         let mask = 0u64.wrapping_sub(bit);
         let a = self.words;
         let b = other.words;
-        self.words = [a[0] | (b[0] & mask), a[1] | (b[1] & mask), a[2] | (b[2] & mask), a[3] | (b[3] & mask)];
+        self.words = [
+            a[0] | (b[0] & mask),
+            a[1] | (b[1] & mask),
+            a[2] | (b[2] & mask),
+            a[3] | (b[3] & mask),
+        ];
     }
 
     // Whether each moment of the set is one of the other.

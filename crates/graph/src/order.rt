@@ -15,12 +15,13 @@ ghost use Rattle.graph.specs.Reaching.{Tells, reaches};
 ghost use Rattle.graph.specs.Sets.{holds};
 ghost use Rattle.graph.specs.Turned.{turned-scene};
 ghost use Rattle.graph.specs.Turns.{OneReady, OneSequence};
-use scene::refusals::Refusal;
-use scene::sources::Source;
 use crate::closure::Closure;
 use crate::consistency::closure_without_clash;
 use crate::moments::Moments;
-use crate::turned::{Turned, TurnedSource};
+use crate::turned::Turned;
+use crate::turned::TurnedSource;
+use scene::refusals::Refusal;
+use scene::sources::Source;
 
 // The place of a moment, counted from 1, and the leader of its group.
 #[derive(Clone, Copy, Debug, PartialEq, Eq)]
@@ -52,7 +53,14 @@ fn lowest_ready(closure: &Closure, back: &Closure, placed: Moments, moments: u16
 }
 
 // Writes the entries of a leader's group; the answer is who has a place then.
-fn place_group(closure: &Closure, entries: &mut [Entry], placed: Moments, moments: u16, leader: u8, place: u16) -> Moments
+fn place_group(
+    closure: &Closure,
+    entries: &mut [Entry],
+    placed: Moments,
+    moments: u16,
+    leader: u8,
+    place: u16,
+) -> Moments
     requires { ⌜ moments ≤ 256 ⌝ ∗ ⌜ moments ≤ length (now entries) ⌝ }
     ensures written { λ _. ⌜ Grouped (reaches (now (closure .entry) .rows)) moments leader (record { place = place; leader = leader }) (now (entries .entry)) (now (entries .exit)) ⌝ }
     ensures marks { λ r. ⌜ ((v : ℕ) → v < 256 → holds r v ≡ (holds placed v || (ltb v moments && (reaches (now (closure .entry) .rows) leader v && reaches (now (closure .entry) .rows) v leader)))) ⌝ }
@@ -60,7 +68,10 @@ fn place_group(closure: &Closure, entries: &mut [Entry], placed: Moments, moment
     let mut marked = placed;
     for m in 0..moments {
         if closure.same_group(leader, m as u8) {
-            entries[m as usize] = Entry { place, leader: u16::from(leader) };
+            entries[m as usize] = Entry {
+                place,
+                leader: u16::from(leader),
+            };
             marked.put_if(true, m as u8);
         }
     }
@@ -68,7 +79,12 @@ fn place_group(closure: &Closure, entries: &mut [Entry], placed: Moments, moment
 }
 
 // Places all groups of a source; the answer is the number of places.
-fn place_groups<S: Source>(source: &S, closure: &Closure, back: &Closure, entries: &mut [Entry]) -> u16
+fn place_groups<S: Source>(
+    source: &S,
+    closure: &Closure,
+    back: &Closure,
+    entries: &mut [Entry],
+) -> u16
     requires { ⌜ Tells (reaches (now closure .rows)) (scene (now source) .rows) ⌝ ∗ ⌜ Tells (reaches (now back .rows)) (turned-scene (scene (now source)) .rows) ⌝ ∗ ⌜ scene (now source) .moments ≤ length (now entries) ⌝ }
     ensures order { λ r. ⌜ Ordered (scene (now (source .entry)) .moments) (scene (now (source .entry)) .rows) (now (entries .exit)) r ⌝ }
     ensures rest { λ _. ⌜ Beyond (scene (now (source .entry)) .moments) (now (entries .entry)) (now (entries .exit)) ⌝ }

@@ -1,7 +1,8 @@
 // A source whose rows are read from right to left, so that each step leads the other way.
 ghost use denote.Ref.{now};
 ghost use Rattle.graph.specs.Turned.{turned-scene};
-use scene::sources::{Row, Source};
+use scene::sources::Row;
+use scene::sources::Source;
 
 pub struct Turned<'a, S> {
     pub below: &'a S,

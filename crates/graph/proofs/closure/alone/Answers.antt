@@ -21,11 +21,12 @@ loop-x-again c =
     let rows = c .loop-x .rows in
     let i = c .loop-x .x in
     let row = c .put-if .last .self in
-    let long : i < length rows = omega arith in
-    (simp length-set (c .loop-x .inv .0),
-    (λ x y l hy. elim (cases-eq x i) [
-        inl e ↦ subst (λ v. reaches (set rows i row) v y ≡ eqb v y) (sym e)
+    let long : i < length rows = omega arith in (
+      simp length-set (c .loop-x .inv .0),
+      (λ x y l hy. elim (cases-eq x i) [
+        | inl e ↦ subst (λ v. reaches (set rows i row) v y ≡ eqb v y) (sym e)
             (ap (λ r. holds r y) (getD-set-same rows i row none long) ∙ c .put-if .ensures y hy ∙ rw (c .loop-x .inv .2 i y (omega arith) (omega arith) hy) (same-test y i i y sym sym))
         | inr ne ↦ ap (λ r. holds r y) (getD-set-other rows i x row none ne) ∙ c .loop-x .inv .1 x y (omega arith) hy
-    ]),
-    (λ x y l hx hy. ap (λ r. holds r y) (getD-set-other rows i x row none (omega arith)) ∙ c .loop-x .inv .2 x y (omega arith) hx hy))
+      ]),
+      (λ x y l hx hy. ap (λ r. holds r y) (getD-set-other rows i x row none (omega arith)) ∙ c .loop-x .inv .2 x y (omega arith) hx hy),
+    )

@@ -11,5 +11,5 @@ loop-x-again c =
     let x = c .loop-x .x in (
       simp length-set (c .loop-x .inv .0),
       change-more old (c .loop-x .rows) (grown (reaches old) (c .args .p) (c .args .q)) x (c .follow .last .self) (c .loop-x .inv .1) (omega arith)
-        (λ y hy. c .follow .ensures y hy ∙ rw (c .loop-x .inv .1 .1 x (omega arith)) refl),
+          (λ y hy. c .follow .ensures y hy ∙ rw (c .loop-x .inv .1 .1 x (omega arith)) refl),
     )

@@ -49,7 +49,7 @@ loop-position-again g c =
           let is = sym (w .in-Some .is) ∙ c .row .ensures in
           let small = row-small (s .moments) (s .rows) i r (s .lawful) is in
           whole-more (s .rows) (s .rows) i r is (c .loop-position .inv)
-            (not-from-decides (torn-by t r) (torn-told t (s .rows) r (c .pre) (small .0) (small .1)) (sym (w .is-torn .ensures) ∙ w .if-is-torn .left)))
+          (not-from-decides (torn-by t r) (torn-told t (s .rows) r (c .pre) (small .0) (small .1)) (sym (w .is-torn .ensures) ∙ w .if-is-torn .left)))
       | in-rest w ↦ absurd (nth-there (s .rows) i (omega (arith, c .count-position-end .ensures)) (sym (w .in-rest .is) ∙ c .row .ensures))
     ]
 

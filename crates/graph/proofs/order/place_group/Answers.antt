@@ -21,12 +21,14 @@ loop-m-again c =
     let cur = c .loop-m .entries in
     let marked = holds (c .args .placed) in
     elim (c .if-same-group .came) [
-        then-same-group w ↦ (let h : P i ≡ true = sym (c .same-group .ensures) ∙ w .if-same-group .taken in
-            (subst (λ v. Grouped t (i + 1) (c .args .leader) e old v) (sym (w .entries-is))
-                (subst (λ v. Grouped t (i + 1) (c .args .leader) e old (set cur i (record { place = c .args .place; leader = v }))) (sym (w .from .ensures))
-                (grouped-set t (c .args .leader) e old cur i (c .loop-m .inv .0) (omega (arith, c .loop-m .inv .0 .0)) h)),
-            subst (λ v. Marks P marked (i + 1) (holds v)) (sym (w .marked-is)) (marks-set P marked (holds (c .loop-m .marked)) (holds (w .put-if .last .self)) i h (w .put-if .ensures) (c .loop-m .inv .1))))
-        | else-same-group w ↦ (let h : P i ≡ false = sym (c .same-group .ensures) ∙ w .if-same-group .left in
-            (subst (λ v. Grouped t (i + 1) (c .args .leader) e old v) (sym (w .entries-is)) (grouped-kept t (c .args .leader) e old cur i (c .loop-m .inv .0) h),
-            subst (λ v. Marks P marked (i + 1) (holds v)) (sym (w .marked-is)) (marks-kept P marked (holds (c .loop-m .marked)) i h (c .loop-m .inv .1))))
+      | then-same-group w ↦ (let h : P i ≡ true = sym (c .same-group .ensures) ∙ w .if-same-group .taken in (
+        subst (λ v. Grouped t (i + 1) (c .args .leader) e old v) (sym (w .entries-is))
+            (subst (λ v. Grouped t (i + 1) (c .args .leader) e old (set cur i (record { place = c .args .place; leader = v }))) (sym (w .from .ensures))
+            (grouped-set t (c .args .leader) e old cur i (c .loop-m .inv .0) (omega (arith, c .loop-m .inv .0 .0)) h)),
+        subst (λ v. Marks P marked (i + 1) (holds v)) (sym (w .marked-is)) (marks-set P marked (holds (c .loop-m .marked)) (holds (w .put-if .last .self)) i h (w .put-if .ensures) (c .loop-m .inv .1)),
+      ))
+      | else-same-group w ↦ (let h : P i ≡ false = sym (c .same-group .ensures) ∙ w .if-same-group .left in (
+        subst (λ v. Grouped t (i + 1) (c .args .leader) e old v) (sym (w .entries-is)) (grouped-kept t (c .args .leader) e old cur i (c .loop-m .inv .0) h),
+        subst (λ v. Marks P marked (i + 1) (holds v)) (sym (w .marked-is)) (marks-kept P marked (holds (c .loop-m .marked)) i h (c .loop-m .inv .1)),
+      ))
     ]

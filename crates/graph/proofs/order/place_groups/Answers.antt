@@ -38,8 +38,8 @@ returns g c =
     let n = c .moments-moments .result in
     let lawful = subst (λ v. Lawful v (s .rows)) (sym (c .moments-moments .ensures)) (s .lawful) in
     record {
-        order = subst (λ v. Ordered v (s .rows) (c .loop-leader .entries) (c .loop-leader .places)) (c .moments-moments .ensures)
-            (state-done n (s .rows) (lawful .own) (lawful .few) (reaches (c .args .closure .now .rows)) (c .pre .0) (reaches (c .args .back .now .rows)) (c .pre .1 .0)
-            (c .args .entries .now) (c .loop-leader .entries) (holds (c .loop-leader .placed)) (c .loop-leader .places) (c .loop-leader .inv) (c .in-rest .ensures tt));
-        rest = subst (λ v. Beyond v (c .args .entries .now) (c .loop-leader .entries)) (c .moments-moments .ensures) (c .loop-leader .inv .rest)
+      order = subst (λ v. Ordered v (s .rows) (c .loop-leader .entries) (c .loop-leader .places)) (c .moments-moments .ensures)
+          (state-done n (s .rows) (lawful .own) (lawful .few) (reaches (c .args .closure .now .rows)) (c .pre .0) (reaches (c .args .back .now .rows)) (c .pre .1 .0)
+          (c .args .entries .now) (c .loop-leader .entries) (holds (c .loop-leader .placed)) (c .loop-leader .places) (c .loop-leader .inv) (c .in-rest .ensures tt));
+      rest = subst (λ v. Beyond v (c .args .entries .now) (c .loop-leader .entries)) (c .moments-moments .ensures) (c .loop-leader .inv .rest);
     }

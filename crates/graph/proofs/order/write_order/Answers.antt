@@ -7,16 +7,16 @@ use Rattle.graph.proofs.order.write_order.Needs as need
 
 pub returns-then-entries-moments : need.returns-then-entries-moments
 returns-then-entries-moments g c = record {
-    answer = inl (refl, omega (arith, c .if-entries-moments .taken, c .moments .ensures));
-    list = refl;
-    one = one-order (g .S·Source .scene (c .args .source .now))
+  answer = inl (refl, omega (arith, c .if-entries-moments .taken, c .moments .ensures));
+  list = refl;
+  one = one-order (g .S·Source .scene (c .args .source .now));
 }
 
 pub returns-in-rest : need.returns-in-rest
 returns-in-rest g c = record {
-    answer = inr ((λ h. omega (arith, h, c .if-entries-moments .left, c .moments .ensures)), inl (refl, c .in-rest .ensures tt));
-    list = refl;
-    one = one-order (g .S·Source .scene (c .args .source .now))
+  answer = inr ((λ h. omega (arith, h, c .if-entries-moments .left, c .moments .ensures)), inl (refl, c .in-rest .ensures tt));
+  list = refl;
+  one = one-order (g .S·Source .scene (c .args .source .now));
 }
 
 pub returns : need.returns
@@ -27,8 +27,10 @@ returns g c =
     let k = c .place-groups .result in
     let o = c .place-groups .ensures .order in
     record {
-        answer = (((λ h. omega (arith, h, c .if-entries-moments .left, c .moments .ensures)), ((λ h. h (e .0)), tt)),
-            (o, ordered-obeys s (reaches (c .in-Some .closure .rows)) (e .1) es k o (e .0), ordered-most s es k o));
-        list = c .place-groups .ensures .rest;
-        one = one-order s
+      answer = (
+        ((λ h. omega (arith, h, c .if-entries-moments .left, c .moments .ensures)), ((λ h. h (e .0)), tt)),
+        (o, ordered-obeys s (reaches (c .in-Some .closure .rows)) (e .1) es k o (e .0), ordered-most s es k o),
+      );
+      list = c .place-groups .ensures .rest;
+      one = one-order s;
     }

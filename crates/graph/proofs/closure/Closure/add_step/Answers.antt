@@ -16,6 +16,7 @@ ghost-self c =
     let u = reaches (c .grow .last .rows) in
     let p : c .args .from < 256 = omega arith in
     let q : c .args .to < 256 = omega arith in
-    let joins = c .args .self .now .joins in
-    (grown-selfs t u (c .args .from) (c .args .to) p q joins (c .grow .ensures) (c .args .self .now .selfs),
-    (grown-joins t u (c .args .from) (c .args .to) p q joins (c .grow .ensures), tt))
+    let joins = c .args .self .now .joins in (
+      grown-selfs t u (c .args .from) (c .args .to) p q joins (c .grow .ensures) (c .args .self .now .selfs),
+      (grown-joins t u (c .args .from) (c .args .to) p q joins (c .grow .ensures), tt),
+    )
