@@ -6,6 +6,8 @@ use mathlib.Core.Logic.{_⊎_, inl, inr}
 use Prim.Native.Nat.{ℕ, _<_}
 use lib.Dec.{eqb}
 use Rattle.std.proofs.shelf.Tests.{or-cases, or-left, or-right, and-parts, and-from, eq-eqb, eqb-true}
+use Rattle.std.specs.Orderings.{Decides}
+use Rattle.std.proofs.shelf.Ways.{decides-at}
 use Rattle.algebra.specs.Placements.{Row}
 use Rattle.graph.specs.Steps.{Path, stay, Step}
 use Rattle.graph.specs.Reaching.{Joins, Selfs, Tells, grown}
@@ -65,6 +67,10 @@ alone-joins u is (x, y, z) (hx, hy, hz, a, b) =
     let e = eqb-true x y (sym (is x y hx hy) ∙ a) in
     let f = eqb-true y z (sym (is y z hy hz) ∙ b) in
     is x z hx hz ∙ eq-eqb x z (e ∙ f)
+
+-- tables that are one tell of the same paths
+pub same-tells : (u t : ℕ → ℕ → Bool) → Same u t → {E : ℕ → ℕ → Type 0} → ((x y : ℕ) → x < 256 → y < 256 → Decides (t x y) (Path E x y)) → (x y : ℕ) → x < 256 → y < 256 → Decides (u x y) (Path E x y)
+same-tells u t is right x y hx hy = decides-at (u x y) (t x y) (is x y hx hy) (right x y hx hy)
 
 -- where a table tells of paths
 pub tells-selfs : (t : ℕ → ℕ → Bool) (rs : List Row) → Tells t rs → Selfs t

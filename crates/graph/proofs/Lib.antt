@@ -1,4 +1,5 @@
 pub mod BitLaws
+pub mod ByHand
 pub mod Closed
 pub mod Finite
 pub mod Freely
@@ -21,4 +22,5 @@ pub mod Seats
 pub mod Sequences
 pub mod Tables
 pub mod Torn
+pub mod Trials
 pub mod Verdict

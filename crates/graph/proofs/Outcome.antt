@@ -6,9 +6,8 @@ use Prim.Native.Nat.{ℕ}
 use Rattle.algebra.specs.Placements.{ObeysAll}
 use Rattle.scene.specs.Scenes.{Agree, Scene}
 use Rattle.graph.specs.declared.order.Entry.{Entry}
-use Rattle.graph.specs.Orders.{MostPlaces, Ordered, placing}
+use Rattle.graph.specs.Orders.{MostPlaces, OneOrder, Ordered, placing}
 use Rattle.graph.specs.Reaching.{Tells}
-use Rattle.graph.specs.Turns.{OneReady, OneSequence}
 use Rattle.graph.proofs.Most.{most-places}
 use Rattle.graph.proofs.Obeyed.{turns-obey}
 use Rattle.graph.proofs.OneOrder.{one-sequence}
@@ -16,7 +15,7 @@ use Rattle.graph.proofs.Readiness.{one-ready}
 use Rattle.graph.proofs.Sequences.{turns-sequence}
 use Rattle.graph.proofs.Tables.{table, table-tells}
 
-pub one-order : (s : Scene) → OneReady (s .moments) (s .rows) × OneSequence (s .moments) (s .rows)
+pub one-order : (s : Scene) → OneOrder s
 one-order s =
     let law = s .lawful in
     (one-ready (s .moments) (s .rows) (law .own) (law .few) (table (s .rows)) (table-tells (s .moments) (s .rows) (law .few) (law .own)), one-sequence (s .moments) (s .rows))

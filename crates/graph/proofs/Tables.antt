@@ -44,7 +44,8 @@ Right t E = (x y : ℕ) → x < 256 → y < 256 → Decides (t x y) (Path E x y)
 right-like : (t : ℕ → ℕ → Bool) (E F : ℕ → ℕ → Type 0) → ((a b : ℕ) → E a b → F a b) → ((a b : ℕ) → F a b → E a b) → Right t E → Right t F
 right-like t E F f g right x y hx hy = decides-like (t x y) (path-map f) (path-map g) (right x y hx hy)
 
-right-grown : (t : ℕ → ℕ → Bool) (E : ℕ → ℕ → Type 0) (p q : ℕ) → p < 256 → q < 256 → Right t E → Right (grown t p q) (Plus E p q)
+-- a table that grows by a step tells of it
+pub right-grown : (t : ℕ → ℕ → Bool) (E : ℕ → ℕ → Type 0) (p q : ℕ) → p < 256 → q < 256 → Right t E → Right (grown t p q) (Plus E p q)
 right-grown t E p q hp hq right x y hx hy =
     decides-like (grown t p q x y) (plus-join E p q) (plus-split E p q)
     (decides-or (t x y) (t x p && t q y) (right x y hx hy) (decides-and (t x p) (t q y) (right x p hx hp) (right q y hq hy)))
@@ -53,7 +54,8 @@ none-stays : {x y : ℕ} → Path (Step []) x y → x ≡ y
 none-stays stay = refl
 none-stays (onward e r) = absurd e
 
-right-none : Right eqb (Step [])
+-- without rows each moment reaches itself alone
+pub right-none : Right eqb (Step [])
 right-none x y hx hy = decides-like (eqb x y) (λ e. subst (λ v. Path (Step []) x v) e stay) none-stays (decides-eqb x y)
 
 -- a step that is there only if a relation is lacking

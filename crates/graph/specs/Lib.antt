@@ -7,3 +7,4 @@ pub mod Orders
 pub mod Turned
 pub mod Within
 pub mod Free
+pub mod Worked

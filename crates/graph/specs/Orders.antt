@@ -13,7 +13,7 @@ use Rattle.scene.specs.declared.refusals.Refusal.{Refusal}
 use Rattle.scene.specs.declared.refusals.Refusal.the-variants.{ListTooShort, Clash as Clashing}
 use Rattle.graph.specs.declared.order.Entry.{Entry}
 use Rattle.graph.specs.Steps.{Leads}
-use Rattle.graph.specs.Turns.{In, AllTurns}
+use Rattle.graph.specs.Turns.{In, AllTurns, OneReady, OneSequence}
 
 -- the entry past the end of a list
 abbrev pub blank : Entry
@@ -41,6 +41,14 @@ Separate p (m ∷ ms) = ((k : ℕ) → In k ms → p m ≡ p k → ⊥) × Separ
 abbrev pub MostPlaces : ℕ → List Row → ℕ → Type 0
 MostPlaces n rs count =
     (p : Placement) → ObeysAll p rs → (ms : List ℕ) → ((m : ℕ) → In m ms → m < n) → Separate p ms → length ms ≤ count
+
+-- what an order owes: the places and leaders of all turns, which obey every row, and no placement has more places
+abbrev pub Owed : Scene → List Entry → ℕ → Type 0
+Owed s entries count = Ordered (s .moments) (s .rows) entries count × ObeysAll (placing entries) (s .rows) × MostPlaces (s .moments) (s .rows) count
+
+-- while a group has no place one is ready, and the turns are one list
+abbrev pub OneOrder : Scene → Type 0
+OneOrder s = OneReady (s .moments) (s .rows) × OneSequence (s .moments) (s .rows)
 
 -- entries from n on are as they were
 abbrev pub Beyond : ℕ → List Entry → List Entry → Type 0

@@ -26,6 +26,14 @@ reaches rows x y = holds (getD rows x none) y
 abbrev pub Tells : (ℕ → ℕ → Bool) → List Row → Type 0
 Tells t rs = (x y : ℕ) → x < 256 → y < 256 → Decides (t x y) (Path (Step rs) x y)
 
+-- a step of the rows, or the one from p to q
+abbrev pub StepOr : List Row → ℕ → ℕ → ℕ → ℕ → Type 0
+StepOr rs p q x y = Step rs x y ⊎ ((x ≡ p) × (y ≡ q))
+
+-- the moment x reaches y just when a path of these leads there
+abbrev pub TellsMore : (ℕ → ℕ → Bool) → List Row → ℕ → ℕ → Type 0
+TellsMore t rs p q = (x y : ℕ) → x < 256 → y < 256 → Decides (t x y) (Path (StepOr rs p q) x y)
+
 -- the set of x has x, and each moment that one step leads to
 abbrev pub TellsSteps : (ℕ → ℕ → Bool) → List Row → Type 0
 TellsSteps t rs = (x y : ℕ) → x < 256 → y < 256 → Decides (t x y) ((x ≡ y) ⊎ Step rs x y)

@@ -3,13 +3,11 @@ ghost use mathlib.Core.Path.{_≡_};
 ghost use mathlib.Core.Bool.{true, _&&_, _||_};
 ghost use Prim.Native.Nat.{ℕ, _+_, _%_, _<_};
 ghost use lib.Dec.{eqb};
-ghost use mathlib.Core.List.{List};
+ghost use mathlib.Core.List.{List, []};
 ghost use Rattle.algebra.specs.Placements.{Row};
-ghost use Rattle.algebra.specs.Points.{has};
-ghost use Rattle.algebra.specs.declared.points.Relation.the-variants.{Before, After};
 ghost use Rattle.graph.specs.Sets.{holds};
 ghost use Rattle.graph.specs.Within.{TellsWithin};
-ghost use Rattle.graph.specs.Reaching.{Inside, Joins, Selfs, Tells, TellsSteps, grown, reaches, stepped};
+ghost use Rattle.graph.specs.Reaching.{Inside, Joins, Selfs, Tells, TellsMore, TellsSteps, grown, reaches, stepped};
 use crate::moments::Moments;
 use algebra::points::Relation;
 use scene::sources::Source;
@@ -25,7 +23,8 @@ pub struct Closure {
 impl Closure {
     // Each moment reaches itself alone.
     pub fn new() -> Self
-        ensures { λ r. ⌜ ((x y : ℕ) → x < 256 → y < 256 → reaches (r .rows) x y ≡ eqb x y) ⌝ }
+        ensures alone { λ r. ⌜ ((x y : ℕ) → x < 256 → y < 256 → reaches (r .rows) x y ≡ eqb x y) ⌝ }
+        ensures paths { λ r. ⌜ Tells (reaches (r .rows)) [] ⌝ }
     {
         Closure { rows: alone() }
     }
@@ -46,7 +45,7 @@ impl Closure {
     }
 
     // The set of moments that one reaches.
-    pub fn reached_from(&self, from: u8) -> Moments
+    pub(crate) fn reached_from(&self, from: u8) -> Moments
         ensures { λ r. ⌜ ((y : ℕ) → holds r y ≡ reaches (now (self .entry) .rows) from y) ⌝ }
     {
         self.rows[from as usize]
@@ -61,7 +60,8 @@ impl Closure {
 
     // One more step.
     pub fn add_step(&mut self, from: u8, to: u8)
-        ensures { λ _. ⌜ ((x y : ℕ) → x < 256 → y < 256 → reaches (now (self .exit) .rows) x y ≡ grown (reaches (now (self .entry) .rows)) from to x y) ⌝ }
+        ensures grown { λ _. ⌜ ((x y : ℕ) → x < 256 → y < 256 → reaches (now (self .exit) .rows) x y ≡ grown (reaches (now (self .entry) .rows)) from to x y) ⌝ }
+        ensures paths { λ _. ⌜ ((rs : List Row) → Tells (reaches (now (self .entry) .rows)) rs → TellsMore (reaches (now (self .exit) .rows)) rs from to) ⌝ }
     {
         if self.reaches(from, to) {
             return;

@@ -4,17 +4,15 @@ ghost use mathlib.Core.Bool.{_&&_, _||_};
 ghost use Prim.Native.Nat.{ℕ, _<_, _≤_};
 ghost use lib.Dec.{ltb};
 ghost use lib.ListN.{length};
-ghost use Rattle.std.specs.Options.{Cases as BySome};
 ghost use Rattle.std.specs.Orderings.{Decides};
-ghost use Rattle.std.specs.Results.{Cases as ByOk};
-ghost use Rattle.algebra.specs.Placements.{ObeysAll};
+ghost use Rattle.std.specs.Results.{Cases};
 ghost use Rattle.scene.specs.Checks.{Answers};
-ghost use Rattle.graph.specs.Free.{Clear, Free, Grouped};
-ghost use Rattle.graph.specs.Orders.{Beyond, MostPlaces, Ordered, ordering, placing};
+ghost use Rattle.graph.specs.Free.{Clear, Grouped, LowestFree};
+ghost use Rattle.graph.specs.Orders.{Beyond, OneOrder, Ordered, Owed, ordering};
 ghost use Rattle.graph.specs.Reaching.{Tells, reaches};
 ghost use Rattle.graph.specs.Sets.{holds};
 ghost use Rattle.graph.specs.Turned.{turned-scene};
-ghost use Rattle.graph.specs.Turns.{OneReady, OneSequence};
+ghost use Rattle.graph.specs.Worked.{Worked};
 use crate::closure::Closure;
 use crate::consistency::closure_without_clash;
 use crate::moments::Moments;
@@ -42,7 +40,7 @@ fn is_clear(closure: &Closure, back: &Closure, placed: Moments, moment: u8) -> b
 // The lowest moment without a place that no other group without a place reaches.
 fn lowest_ready(closure: &Closure, back: &Closure, placed: Moments, moments: u16) -> Option<u8>
     requires { ⌜ moments ≤ 256 ⌝ }
-    ensures { λ r. ⌜ BySome r ((m : ℕ) → m < moments → Free (reaches (now (closure .entry) .rows)) (reaches (now (back .entry) .rows)) (holds placed) m → ⊥) (λ m. (m < moments) × Free (reaches (now (closure .entry) .rows)) (reaches (now (back .entry) .rows)) (holds placed) m × ((v : ℕ) → v < m → Free (reaches (now (closure .entry) .rows)) (reaches (now (back .entry) .rows)) (holds placed) v → ⊥)) ⌝ }
+    ensures { λ r. ⌜ LowestFree (reaches (now (closure .entry) .rows)) (reaches (now (back .entry) .rows)) (holds placed) moments r ⌝ }
 {
     for m in 0..moments {
         if !placed.has(m as u8) && is_clear(closure, back, placed, m as u8) {
@@ -102,9 +100,10 @@ fn place_groups<S: Source>(
 // Writes the place and the leader of each moment, and answers the number of places. Refused where the list has
 // fewer entries than the source has moments, and then where the rows clash.
 pub fn write_order<S: Source>(source: &S, entries: &mut [Entry]) -> Result<u16, Refusal>
-    ensures answer { λ r. ⌜ Answers (ordering (scene (now (source .entry))) (now (entries .entry))) (λ places. Ordered (scene (now (source .entry)) .moments) (scene (now (source .entry)) .rows) (now (entries .exit)) places × ObeysAll (placing (now (entries .exit))) (scene (now (source .entry)) .rows) × MostPlaces (scene (now (source .entry)) .moments) (scene (now (source .entry)) .rows) places) r ⌝ }
-    ensures list { λ r. ⌜ ByOk r (λ _. Beyond (scene (now (source .entry)) .moments) (now (entries .entry)) (now (entries .exit))) (λ _. now (entries .exit) ≡ now (entries .entry)) ⌝ }
-    ensures one { λ _. ⌜ OneReady (scene (now (source .entry)) .moments) (scene (now (source .entry)) .rows) × OneSequence (scene (now (source .entry)) .moments) (scene (now (source .entry)) .rows) ⌝ }
+    ensures answer { λ r. ⌜ Answers (ordering (scene (now (source .entry))) (now (entries .entry))) (Owed (scene (now (source .entry))) (now (entries .exit))) r ⌝ }
+    ensures list { λ r. ⌜ Cases r (λ _. Beyond (scene (now (source .entry)) .moments) (now (entries .entry)) (now (entries .exit))) (λ _. now (entries .exit) ≡ now (entries .entry)) ⌝ }
+    ensures one { λ _. ⌜ OneOrder (scene (now (source .entry))) ⌝ }
+    ensures worked { λ _. ⌜ Worked ⌝ }
 {
     if entries.len() < source.moments() as usize {
         return Err(Refusal::ListTooShort);

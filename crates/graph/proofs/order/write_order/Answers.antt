@@ -2,6 +2,7 @@ use mathlib.Core.Path.{refl}
 use mathlib.Core.Logic.{inl, inr}
 use native.Mathlib.Omega.{arith}
 use Rattle.graph.specs.Reaching.{reaches}
+use Rattle.graph.proofs.ByHand.{worked}
 use Rattle.graph.proofs.Outcome.{one-order, ordered-most, ordered-obeys}
 use Rattle.graph.proofs.order.write_order.Needs as need
 
@@ -10,6 +11,7 @@ returns-then-entries-moments g c = record {
   answer = inl (refl, omega (arith, c .if-entries-moments .taken, c .moments .ensures));
   list = refl;
   one = one-order (g .S·Source .scene (c .args .source .now));
+  worked = worked;
 }
 
 pub returns-in-rest : need.returns-in-rest
@@ -17,6 +19,7 @@ returns-in-rest g c = record {
   answer = inr ((λ h. omega (arith, h, c .if-entries-moments .left, c .moments .ensures)), inl (refl, c .in-rest .ensures tt));
   list = refl;
   one = one-order (g .S·Source .scene (c .args .source .now));
+  worked = worked;
 }
 
 pub returns : need.returns
@@ -33,4 +36,5 @@ returns g c =
       );
       list = c .place-groups .ensures .rest;
       one = one-order s;
+      worked = worked;
     }
