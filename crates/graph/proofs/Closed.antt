@@ -1,6 +1,6 @@
 -- A closed table that takes one more step is closed again.
 use mathlib.Core.Path.{_≡_, refl, sym, _∙_}
-use mathlib.Core.Bool.{Bool, true, false, _||_, _&&_}
+use mathlib.Core.Bool.{Bool, true, false, _&&_}
 use mathlib.Core.List.{List}
 use mathlib.Core.Logic.{_⊎_, inl, inr}
 use Prim.Native.Nat.{ℕ, _<_}
@@ -9,7 +9,7 @@ use Rattle.std.proofs.shelf.Tests.{or-cases, or-left, or-right, and-parts, and-
 use Rattle.std.specs.Orderings.{Decides}
 use Rattle.std.proofs.shelf.Ways.{decides-at}
 use Rattle.algebra.specs.Placements.{Row}
-use Rattle.graph.specs.Steps.{Path, stay, Step}
+use Rattle.graph.specs.Steps.{Path, stay}
 use Rattle.graph.specs.Reaching.{Joins, Selfs, Tells, grown}
 use Rattle.graph.proofs.Paths.{path-join}
 

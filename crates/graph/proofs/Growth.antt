@@ -2,7 +2,7 @@
 use mathlib.Core.Path.{_≡_, refl, sym, ap, subst, _∙_}
 use mathlib.Core.Bool.{Bool, true, false, _||_, _&&_}
 use mathlib.Core.List.{List, [], _∷_}
-use mathlib.Core.Logic.{_⊎_, inl, inr, _≢_}
+use mathlib.Core.Logic.{inl, inr, _≢_}
 use Prim.Native.Nat.{ℕ, _+_, _<_, _≤_}
 use native.Mathlib.Omega.{arith}
 use lib.Dec.{eqb}
@@ -11,7 +11,7 @@ use lib.Seq.{getD-set-same, getD-set-other}
 use Rattle.std.proofs.shelf.Tests.{cases-eq, eq-eqb, ne-eqb}
 use Rattle.graph.specs.declared.moments.Moments.{Moments}
 use Rattle.graph.specs.Sets.{holds, pair}
-use Rattle.graph.specs.Reaching.{reaches, none, grown, put}
+use Rattle.graph.specs.Reaching.{reaches, none, put}
 
 -- the rows below i are changed as told, and the others are as they were
 abbrev pub Changed : List Moments → (ℕ → ℕ → Bool) → ℕ → List Moments → Type 0

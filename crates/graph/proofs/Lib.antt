@@ -2,7 +2,7 @@ pub mod BitLaws
 pub mod ByHand
 pub mod Closed
 pub mod Finite
-pub mod Freely
+pub mod FreeIsReady
 pub mod Groups
 pub mod Growth
 pub mod Most
@@ -20,6 +20,7 @@ pub mod Reversal
 pub mod Rising
 pub mod Seats
 pub mod Sequences
+pub mod Spread
 pub mod Tables
 pub mod Torn
 pub mod Trials

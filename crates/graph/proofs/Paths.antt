@@ -1,8 +1,8 @@
 -- Paths joined, carried over, and kept among the moments of the scene.
-use mathlib.Core.Path.{_≡_, refl, sym, subst, subst₂}
+use mathlib.Core.Path.{_≡_, subst}
 use mathlib.Core.Bool.{true, _&&_}
 use mathlib.Core.List.{List, [], _∷_}
-use mathlib.Core.Logic.{_⊎_, inl, inr}
+use mathlib.Core.Logic.{inl, inr}
 use Prim.Native.Nat.{ℕ, _<_}
 use Rattle.std.proofs.shelf.Tests.{and-parts, ltb-true}
 use lib.Dec.{ltb}
@@ -20,14 +20,14 @@ path-map f stay = stay
 path-map f (onward {x = a} {y = b} e r) = onward (f a b e) (path-map f r)
 
 -- the two ends of a row that fits n moments
-ends : (n : ℕ) (r : Row) → (names n r && ranged r) ≡ true → (r .0 < n) × (r .2 < n)
-ends n r h =
+pub row-ends : (n : ℕ) (r : Row) → (names n r && ranged r) ≡ true → (r .0 < n) × (r .2 < n)
+row-ends n r h =
     let p = and-parts (ltb (r .0) n) (ltb (r .2) n) (and-parts (names n r) (ranged r) h .0) in
     (ltb-true (r .0) n (p .0), ltb-true (r .2) n (p .1))
 
 row-inside : (n : ℕ) (r : Row) → (names n r && ranged r) ≡ true → (x y : ℕ) → StepOf r x y → (x < n) × (y < n)
-row-inside n r h x y (inl s) = let e = ends n r h in (subst (λ v. v < n) (s .0) (e .0), subst (λ v. v < n) (s .1) (e .1))
-row-inside n r h x y (inr s) = let e = ends n r h in (subst (λ v. v < n) (s .0) (e .1), subst (λ v. v < n) (s .1) (e .0))
+row-inside n r h x y (inl s) = let e = row-ends n r h in (subst (λ v. v < n) (s .0) (e .0), subst (λ v. v < n) (s .1) (e .1))
+row-inside n r h x y (inr s) = let e = row-ends n r h in (subst (λ v. v < n) (s .0) (e .1), subst (λ v. v < n) (s .1) (e .0))
 
 -- steps of rows that fit n moments are between moments below n
 pub step-inside : (n : ℕ) (rs : List Row) → all-fit n rs ≡ true → (x y : ℕ) → Step rs x y → (x < n) × (y < n)

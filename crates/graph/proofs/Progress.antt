@@ -22,7 +22,7 @@ use Rattle.graph.specs.Steps.{SameGroup, Leads}
 use Rattle.graph.specs.Turned.{turned}
 use Rattle.graph.specs.Turns.{Placed, Ready, Turns, start, turn}
 use Rattle.graph.proofs.Finite.{count, count-lt, count-bound}
-use Rattle.graph.proofs.Freely.{lowest-ready, lowest-first, none-free, marks-more}
+use Rattle.graph.proofs.FreeIsReady.{lowest-ready, lowest-first, none-free, marks-more}
 use Rattle.graph.proofs.Groups.{group-self, group-turned, group-join, placed-cases, placed-last, decides-same}
 use Rattle.graph.proofs.Seats.{nth-more, nth-last}
 use Rattle.graph.proofs.Sequences.{sequence-closed, turns-sequence}

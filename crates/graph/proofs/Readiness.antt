@@ -12,7 +12,7 @@ use Rattle.scene.specs.Scenes.{all-fit}
 use Rattle.graph.specs.Reaching.{Tells}
 use Rattle.graph.specs.Steps.{Path, stay, onward, Step, SameGroup, Leads}
 use Rattle.graph.specs.Turns.{Placed, Ready, OneReady}
-use Rattle.graph.proofs.Finite.{count, count-lt, first, first-found, least, Least}
+use Rattle.graph.proofs.Finite.{count, count-le, count-lt, first, first-found, least, Least}
 use Rattle.graph.proofs.Groups.{group-self, group-turned, group-join, placed-group, seated, decides-same, decides-placed}
 use Rattle.graph.proofs.Paths.{path-join, path-inside}
 
@@ -34,7 +34,7 @@ pub eligible-ready : (n : ℕ) (rs : List Row) (ls : List ℕ) (l : ℕ) → Eli
 eligible-ready n rs ls l e leads = (e .0, leads, e .1, λ p q s g un. let path = onward s (g .0) in (path, e .2 p path un))
 
 -- how many moments reach x
-abbrev rank : ℕ → (ℕ → ℕ → Bool) → ℕ → ℕ
+abbrev pub rank : ℕ → (ℕ → ℕ → Bool) → ℕ → ℕ
 rank n t x = count (λ z. t z x) n
 
 -- the lowest moment of the group of x
@@ -48,8 +48,12 @@ module _ (n : ℕ) (rs : List Row) (own : all-fit n rs ≡ true) (few : n ≤ 25
   told : (x y : ℕ) → x < n → y < n → t x y ≡ true → Path (Step rs) x y
   told x y hx hy e = tells x y (omega arith) (omega arith) .0 e
 
-  -- one that reaches another, and is not reached by it, is reached by fewer
-  rank-lt : (x y : ℕ) → x < n → y < n → Path (Step rs) x y → t y x ≡ false → rank n t x < rank n t y
+  -- one that reaches another is reached by no more moments
+  pub rank-le : (x y : ℕ) → x < n → y < n → Path (Step rs) x y → rank n t x ≤ rank n t y
+  rank-le x y hx hy p = count-le (λ z. t z x) (λ z. t z y) n (λ z hz h. tell z y hz hy (path-join (told z x hz hx h) p))
+
+  -- and by fewer, where it is not reached back
+  pub rank-lt : (x y : ℕ) → x < n → y < n → Path (Step rs) x y → t y x ≡ false → rank n t x < rank n t y
   rank-lt x y hx hy p e = count-lt (λ z. t z x) (λ z. t z y) n y hy e (tell y y hy hy stay) (λ z hz h. tell z y hz hy (path-join (told z x hz hx h) p))
 
   pub leader-leads : (x : ℕ) → x < n → Leads rs (leader n t x) x

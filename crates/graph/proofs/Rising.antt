@@ -1,8 +1,8 @@
 -- A placement that obeys rows rises along their paths, so a row that is torn leaves none.
-use mathlib.Core.Path.{_≡_, refl, sym, subst, subst₂}
-use mathlib.Core.Bool.{Bool, true, false}
+use mathlib.Core.Path.{_≡_, subst, subst₂}
+use mathlib.Core.Bool.{true, false}
 use mathlib.Core.List.{List, [], _∷_}
-use mathlib.Core.Logic.{_⊎_, inl, inr}
+use mathlib.Core.Logic.{inl, inr}
 use Prim.Native.Nat.{ℕ}
 use native.Mathlib.Omega.{arith}
 use lib.IntN.{ℤ}
@@ -16,7 +16,7 @@ use Rattle.algebra.specs.declared.points.Relation.the-variants.{Before, Togethe
 use Rattle.algebra.proofs.Signs.{trichotomy}
 use Rattle.scene.specs.Scenes.{Clash}
 use Rattle.graph.specs.Steps.{Path, stay, onward, Step, StepOf, SameGroup}
-use Rattle.graph.specs.Clashes.{Torn, SomeTorn}
+use Rattle.graph.specs.Clashes.{SomeTorn}
 
 -- whatever relation but after holds of two numbers, the first is not the larger
 up : (a b : ℤ) (s : ℕ) → has s After ≡ false → (q : Relation) → Holds q a b → has s q ≡ true → a ≤ℤ b

@@ -1,13 +1,13 @@
 -- Which moment reaches which by given rows, worked out from the rows one by one.
 use mathlib.Core.Path.{_≡_, refl, sym, subst}
-use mathlib.Core.Bool.{Bool, true, false, _&&_, _||_}
+use mathlib.Core.Bool.{Bool, true, false, _&&_}
 use mathlib.Core.List.{List, [], _∷_}
 use mathlib.Core.Logic.{_⊎_, inl, inr}
 use Prim.Native.Nat.{ℕ, _<_, _≤_}
 use native.Mathlib.Omega.{arith}
-use lib.Dec.{eqb, ltb}
+use lib.Dec.{eqb}
 use Rattle.std.specs.Orderings.{Decides}
-use Rattle.std.proofs.shelf.Tests.{and-parts, ltb-true, true≢false}
+use Rattle.std.proofs.shelf.Tests.{and-parts, true≢false}
 use Rattle.std.proofs.shelf.Ways.{decides-like, decides-and, decides-or, decides-eqb}
 use Rattle.algebra.specs.Placements.{Row}
 use Rattle.algebra.specs.Points.{has}
@@ -15,7 +15,7 @@ use Rattle.algebra.specs.declared.points.Relation.the-variants.{Before, After}
 use Rattle.scene.specs.Scenes.{names, ranged, all-fit}
 use Rattle.graph.specs.Steps.{Path, stay, onward, Step, StepOf}
 use Rattle.graph.specs.Reaching.{Tells, grown}
-use Rattle.graph.proofs.Paths.{path-join, path-map}
+use Rattle.graph.proofs.Paths.{path-join, path-map, row-ends}
 
 -- one more step
 abbrev Plus : (ℕ → ℕ → Type 0) → ℕ → ℕ → ℕ → ℕ → Type 0
@@ -97,7 +97,5 @@ pub table-tells : (n : ℕ) (rs : List Row) → n ≤ 256 → all-fit n rs ≡ t
 table-tells n [] few own = right-none
 table-tells n (r ∷ rs) few own =
     let p = and-parts (names n r && ranged r) (all-fit n rs) own in
-    let q = and-parts (ltb (r .0) n) (ltb (r .2) n) (and-parts (names n r) (ranged r) (p .0) .0) in
-    let left = ltb-true (r .0) n (q .0) in
-    let right = ltb-true (r .2) n (q .1) in
-    right-row (table rs) (Step rs) r (omega arith) (omega arith) (table-tells n rs few (p .1))
+    let e = row-ends n r (p .0) in
+    right-row (table rs) (Step rs) r (omega (arith, e .0)) (omega (arith, e .1)) (table-tells n rs few (p .1))

@@ -3,11 +3,10 @@ use mathlib.Core.Path.{_≡_}
 use mathlib.Core.Bool.{false}
 use mathlib.Core.List.{List, [], _∷_}
 use mathlib.Core.Logic.{_⊎_}
-use Prim.Native.Nat.{ℕ}
 use Rattle.algebra.specs.Points.{has}
 use Rattle.algebra.specs.Placements.{Row}
 use Rattle.algebra.specs.declared.points.Relation.the-variants.{Together}
-use Rattle.scene.specs.Scenes.{Agree, Clash}
+use Rattle.scene.specs.Scenes.{Clash}
 use Rattle.graph.specs.Steps.{SameGroup}
 
 -- a row that lacks together has both ends in one group of the rows all

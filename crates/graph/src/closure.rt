@@ -1,6 +1,6 @@
 // Which moment reaches which by the steps of rows.
 ghost use mathlib.Core.Path.{_≡_};
-ghost use mathlib.Core.Bool.{true, _&&_, _||_};
+ghost use mathlib.Core.Bool.{true, _&&_};
 ghost use Prim.Native.Nat.{ℕ, _+_, _%_, _<_};
 ghost use lib.Dec.{eqb};
 ghost use mathlib.Core.List.{List, []};

@@ -1,10 +1,8 @@
-use mathlib.Core.Path.{_≡_, sym, subst, _∙_}
-use Prim.Native.Nat.{_+_, _<_}
+use mathlib.Core.Path.{sym, subst, _∙_}
+use Prim.Native.Nat.{_+_}
 use native.Mathlib.Omega.{arith}
-use lib.ListN.{take, length}
+use lib.ListN.{take}
 use Rattle.std.proofs.shelf.Lists.{take-all}
-use Rattle.std.specs.declared.option.Option.the-variants.{Some}
-use Rattle.std.specs.shelf.Maps.{nth}
 use Rattle.algebra.specs.Placements.{Row}
 use Rattle.scene.proofs.Positions.{nth-there}
 use Rattle.graph.specs.Reaching.{TellsSteps, reaches}

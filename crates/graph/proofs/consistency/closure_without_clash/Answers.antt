@@ -1,4 +1,3 @@
-use mathlib.Core.Path.{_≡_}
 use Rattle.std.proofs.shelf.Ways.{not-from-decides}
 use Rattle.graph.proofs.Rising.{torn-clashes}
 use Rattle.graph.proofs.Verdict.{whole-agrees}

@@ -1,6 +1,5 @@
-use mathlib.Core.Path.{_≡_, refl, sym, subst, _∙_}
+use mathlib.Core.Path.{refl, sym, subst, _∙_}
 use native.Mathlib.Omega.{arith}
-use lib.ListN.{take}
 use Rattle.std.proofs.shelf.Lists.{take-all}
 use Rattle.std.proofs.shelf.Tests.{false≢true}
 use Rattle.std.proofs.shelf.Ways.{not-from-decides}

@@ -1,7 +1,5 @@
 use mathlib.Core.Path.{ap}
-use Prim.Native.Nat.{_/_, _%_, _^_}
 use lib.Dec.{eqb}
-use lib.ListN.{getD}
 use Rattle.graph.proofs.BitLaws.{bit-low}
 use Rattle.graph.proofs.moments.Moments.has.Needs as need
 
