@@ -52,7 +52,7 @@ or-false false = refl
 same-below : (v i : ℕ) → (v ≡ i → ⊥) → ltb v (i + 1) ≡ ltb v i
 same-below v i ne = elim (cases-lt v i) [ inl lt ↦ lt-ltb v (i + 1) (omega arith) ∙ sym (lt-ltb v i lt) | inr le ↦ le-ltb v (i + 1) (omega arith) ∙ sym (le-ltb v i le) ]
 
-pub marks-set : (P old cur next : ℕ → Bool) (i : ℕ) → P i ≡ true → ((v : ℕ) → v < 256 → next v ≡ (cur v || (true && eqb v i))) → Marks P old i cur → Marks P old (i + 1) next
+pub marks-set : (P old cur next : ℕ → Bool) (i : ℕ) → P i ≡ true → ((v : ℕ) → v < 256 → next v ≡ (cur v || eqb v i)) → Marks P old i cur → Marks P old (i + 1) next
 marks-set P old cur next i h is m v hv = is v hv ∙ elim (cases-eq v i) [
   | inl e ↦ rw (e, eq-eqb i i refl, lt-ltb i (i + 1) (omega arith), h, or-true (cur i), or-true (old i))
   | inr ne ↦ rw (ne-eqb v i ne, or-false (cur v), same-below v i ne) (m v hv)

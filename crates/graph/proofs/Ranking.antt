@@ -45,9 +45,9 @@ module _ (n : ℕ) (rs : List Row) (own : all-fit n rs ≡ true) (few : n ≤ 25
 
   pub ranking-spread : Spread n rs (ranking n t)
   ranking-spread = record {
-      up = λ x y hx hy p. elim (cases-bool (t y x)) [
-          | inl e ↦ (let same = same-ranking x y hx hy (p, tells y x (omega arith) (omega arith) .0 e) in omega arith)
-          | inr e ↦ lower-ranking x y hx hy p e
-      ];
-      one = λ x y hx hy e. (let l : leader n t x ≡ leader n t y = omega (arith, leader-small x hx, leader-small y hy) in one-leader x y hx hy l);
+    up = λ x y hx hy p. elim (cases-bool (t y x)) [
+      | inl e ↦ (let same = same-ranking x y hx hy (p, tells y x (omega arith) (omega arith) .0 e) in omega arith)
+      | inr e ↦ lower-ranking x y hx hy p e
+    ];
+    one = λ x y hx hy e. (let l : leader n t x ≡ leader n t y = omega (arith, leader-small x hx, leader-small y hy) in one-leader x y hx hy l);
   }

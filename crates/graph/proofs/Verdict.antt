@@ -39,11 +39,11 @@ module _ (t : ℕ → ℕ → Bool) (all : List Row) (tells : Tells t all) (n : 
       let e = row-ends n r (p .0) in
       let d = torn-told t all r tells (omega (arith, e .0)) (omega (arith, e .1)) in
       elim (cases-bool (torn-by t r)) [
-          | inl is-torn ↦ inl (inl (d .0 is-torn))
-          | inr not-torn ↦ elim (find-torn rs (p .1)) [
-              | inl s ↦ inl (inr s)
-              | inr free ↦ inr (λ s. elim s [ inl a ↦ not-from-decides (torn-by t r) d not-torn a | inr b ↦ free b ])
-          ]
+        | inl is-torn ↦ inl (inl (d .0 is-torn))
+        | inr not-torn ↦ elim (find-torn rs (p .1)) [
+          | inl s ↦ inl (inr s)
+          | inr free ↦ inr (λ s. elim s [ inl a ↦ not-from-decides (torn-by t r) d not-torn a | inr b ↦ free b ])
+        ]
       ]
 
 -- without a torn row some placement obeys all

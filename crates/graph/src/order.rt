@@ -2,12 +2,12 @@
 ghost use mathlib.Core.Path.{_≡_};
 ghost use mathlib.Core.Bool.{_&&_, _||_};
 ghost use Prim.Native.Nat.{ℕ, _<_, _≤_};
-ghost use lib.Dec.{ltb};
-ghost use lib.ListN.{length};
+ghost use lib.Dec.{eqb, ltb};
+ghost use lib.ListN.{length, set};
 ghost use Rattle.std.specs.Orderings.{Decides};
 ghost use Rattle.std.specs.Results.{Cases};
 ghost use Rattle.scene.specs.Checks.{Answers};
-ghost use Rattle.graph.specs.Free.{Clear, Grouped, LowestFree};
+ghost use Rattle.graph.specs.Free.{Clear, Free, Grouped, LowestFree};
 ghost use Rattle.graph.specs.Orders.{Beyond, OneOrder, Ordered, Owed, ordering};
 ghost use Rattle.graph.specs.Reaching.{Tells, reaches};
 ghost use Rattle.graph.specs.Sets.{holds};
@@ -37,17 +37,37 @@ fn is_clear(closure: &Closure, back: &Closure, placed: Moments, moment: u8) -> b
     back.reached_from(moment).within(&allowed)
 }
 
-// The lowest moment without a place that no other group without a place reaches.
+// Whether a moment has no place, and no other group without a place reaches it.
+fn is_free(closure: &Closure, back: &Closure, placed: Moments, moment: u8) -> bool
+    ensures { λ r. ⌜ Decides r (Free (reaches (now (closure .entry) .rows)) (reaches (now (back .entry) .rows)) (holds placed) moment) ⌝ }
+{
+    !placed.has(moment) && is_clear(closure, back, placed, moment)
+}
+
+// The lowest moment that is free.
 fn lowest_ready(closure: &Closure, back: &Closure, placed: Moments, moments: u16) -> Option<u8>
     requires { ⌜ moments ≤ 256 ⌝ }
     ensures { λ r. ⌜ LowestFree (reaches (now (closure .entry) .rows)) (reaches (now (back .entry) .rows)) (holds placed) moments r ⌝ }
 {
     for m in 0..moments {
-        if !placed.has(m as u8) && is_clear(closure, back, placed, m as u8) {
+        if is_free(closure, back, placed, m as u8) {
             return Some(m as u8);
         }
     }
     None
+}
+
+// Writes the entry of a moment, and marks it.
+fn place_moment(entries: &mut [Entry], marked: &mut Moments, moment: u8, leader: u8, place: u16)
+    requires { ⌜ moment < length (now entries) ⌝ }
+    ensures written { λ _. ⌜ now (entries .exit) ≡ set (now (entries .entry)) moment (record { place = place; leader = leader }) ⌝ }
+    ensures marks { λ _. ⌜ ((v : ℕ) → v < 256 → holds (now (marked .exit)) v ≡ (holds (now (marked .entry)) v || eqb v moment)) ⌝ }
+{
+    entries[moment as usize] = Entry {
+        place,
+        leader: u16::from(leader),
+    };
+    marked.put_if(true, moment);
 }
 
 // Writes the entries of a leader's group; the answer is who has a place then.
@@ -66,11 +86,7 @@ fn place_group(
     let mut marked = placed;
     for m in 0..moments {
         if closure.same_group(leader, m as u8) {
-            entries[m as usize] = Entry {
-                place,
-                leader: u16::from(leader),
-            };
-            marked.put_if(true, m as u8);
+            place_moment(entries, &mut marked, m as u8, leader, place);
         }
     }
     marked
@@ -97,6 +113,16 @@ fn place_groups<S: Source>(
     places
 }
 
+// The same, with who reaches a moment read from the source.
+fn place_all<S: Source>(source: &S, closure: &Closure, entries: &mut [Entry]) -> u16
+    requires { ⌜ Tells (reaches (now closure .rows)) (scene (now source) .rows) ⌝ ∗ ⌜ scene (now source) .moments ≤ length (now entries) ⌝ }
+    ensures order { λ r. ⌜ Ordered (scene (now (source .entry)) .moments) (scene (now (source .entry)) .rows) (now (entries .exit)) r ⌝ }
+    ensures rest { λ _. ⌜ Beyond (scene (now (source .entry)) .moments) (now (entries .entry)) (now (entries .exit)) ⌝ }
+{
+    let back = Closure::of(&Turned { below: source });
+    place_groups(source, closure, &back, entries)
+}
+
 // Writes the place and the leader of each moment, and answers the number of places. Refused where the list has
 // fewer entries than the source has moments, and then where the rows clash.
 pub fn write_order<S: Source>(source: &S, entries: &mut [Entry]) -> Result<u16, Refusal>
@@ -111,6 +137,5 @@ pub fn write_order<S: Source>(source: &S, entries: &mut [Entry]) -> Result<u16, 
     let Some(closure) = closure_without_clash(source) else {
         return Err(Refusal::Clash);
     };
-    let back = Closure::of(&Turned { below: source });
-    Ok(place_groups(source, &closure, &back, entries))
+    Ok(place_all(source, &closure, entries))
 }

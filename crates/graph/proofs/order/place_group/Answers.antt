@@ -2,7 +2,6 @@ use mathlib.Core.Path.{_≡_, sym, subst, _∙_}
 use mathlib.Core.Bool.{Bool, true, false, _&&_}
 use Prim.Native.Nat.{ℕ, _+_}
 use native.Mathlib.Omega.{arith}
-use lib.ListN.{set}
 use Rattle.graph.specs.declared.order.Entry.{Entry}
 use Rattle.graph.specs.Free.{Grouped}
 use Rattle.graph.specs.Reaching.{reaches}
@@ -22,10 +21,9 @@ loop-m-again c =
     let marked = holds (c .args .placed) in
     elim (c .if-same-group .came) [
       | then-same-group w ↦ (let h : P i ≡ true = sym (c .same-group .ensures) ∙ w .if-same-group .taken in (
-        subst (λ v. Grouped t (i + 1) (c .args .leader) e old v) (sym (w .entries-is))
-            (subst (λ v. Grouped t (i + 1) (c .args .leader) e old (set cur i (record { place = c .args .place; leader = v }))) (sym (w .from .ensures))
-            (grouped-set t (c .args .leader) e old cur i (c .loop-m .inv .0) (omega (arith, c .loop-m .inv .0 .0)) h)),
-        subst (λ v. Marks P marked (i + 1) (holds v)) (sym (w .marked-is)) (marks-set P marked (holds (c .loop-m .marked)) (holds (w .put-if .last .self)) i h (w .put-if .ensures) (c .loop-m .inv .1)),
+        subst (λ v. Grouped t (i + 1) (c .args .leader) e old v) (sym (w .entries-is ∙ w .place-moment .ensures .written))
+            (grouped-set t (c .args .leader) e old cur i (c .loop-m .inv .0) (omega (arith, c .loop-m .inv .0 .0)) h),
+        subst (λ v. Marks P marked (i + 1) (holds v)) (sym (w .marked-is)) (marks-set P marked (holds (c .loop-m .marked)) (holds (w .place-moment .last .marked)) i h (w .place-moment .ensures .marks) (c .loop-m .inv .1)),
       ))
       | else-same-group w ↦ (let h : P i ≡ false = sym (c .same-group .ensures) ∙ w .if-same-group .left in (
         subst (λ v. Grouped t (i + 1) (c .args .leader) e old v) (sym (w .entries-is)) (grouped-kept t (c .args .leader) e old cur i (c .loop-m .inv .0) h),

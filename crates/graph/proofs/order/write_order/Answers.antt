@@ -26,15 +26,15 @@ pub returns : need.returns
 returns g c =
     let s = g .S·Source .scene (c .args .source .now) in
     let e = c .in-Some .ensures tt in
-    let es = c .place-groups .last .entries in
-    let k = c .place-groups .result in
-    let o = c .place-groups .ensures .order in
+    let es = c .place-all .last .entries in
+    let k = c .place-all .result in
+    let o = c .place-all .ensures .order in
     record {
       answer = (
         ((λ h. omega (arith, h, c .if-entries-moments .left, c .moments .ensures)), ((λ h. h (e .0)), tt)),
         (o, ordered-obeys s (reaches (c .in-Some .closure .rows)) (e .1) es k o (e .0), ordered-most s es k o),
       );
-      list = c .place-groups .ensures .rest;
+      list = c .place-all .ensures .rest;
       one = one-order s;
       worked = worked;
     }

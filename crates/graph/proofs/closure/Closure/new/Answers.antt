@@ -11,6 +11,6 @@ ghost-result c =
 
 pub returns : need.returns
 returns c = record {
-    alone = c .alone .ensures;
-    paths = same-tells (reaches (c .alone .result)) eqb (c .alone .ensures) right-none;
+  alone = c .alone .ensures;
+  paths = same-tells (reaches (c .alone .result)) eqb (c .alone .ensures) right-none;
 }
