@@ -3,7 +3,7 @@
 use crate::{AFTER, BEFORE, BenchScene, MOMENTS, TOGETHER};
 
 /// Whether no row that lacks together has both ends in one group.
-fn untorn(scene: &BenchScene, group: &[usize]) -> bool {
+fn possible(scene: &BenchScene, group: &[usize]) -> bool {
     scene
         .rows
         .iter()
@@ -79,7 +79,7 @@ pub fn tarjan(scene: &BenchScene) -> bool {
             t.visit(v);
         }
     }
-    untorn(scene, &t.group)
+    possible(scene, &t.group)
 }
 
 /// A set of moments, a bit for each.
@@ -171,5 +171,5 @@ pub fn kosaraju(scene: &BenchScene) -> bool {
             }
         }
     }
-    untorn(scene, &group)
+    possible(scene, &group)
 }

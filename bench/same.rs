@@ -79,11 +79,11 @@ impl Closure {
 /// None where the rows clash.
 fn closure_without_clash(scene: &BenchScene) -> Option<Closure> {
     let closure = Closure::of(scene.rows.iter().map(|row| (row.left, row.set, row.right)));
-    let torn = scene
+    let impossible = scene
         .rows
         .iter()
         .any(|row| row.set & TOGETHER == 0 && closure.same_group(row.left, row.right));
-    if torn { None } else { Some(closure) }
+    if impossible { None } else { Some(closure) }
 }
 
 #[inline(never)]

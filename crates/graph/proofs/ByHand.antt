@@ -8,7 +8,7 @@ use Rattle.graph.specs.Orders.{Ordered}
 use Rattle.graph.specs.Steps.{stay}
 use Rattle.graph.specs.Turns.{Turns, start}
 use Rattle.graph.specs.Worked.{Worked, at, before-itself, both-ways, diamond}
-use Rattle.graph.proofs.Rising.{torn-clashes}
+use Rattle.graph.proofs.Rising.{impossible-clashes}
 use Rattle.graph.proofs.Trials.{turn-told, ordered-told}
 
 both-ways-ordered : Ordered 2 both-ways (at 1 0 ∷ at 1 0 ∷ []) 1
@@ -25,7 +25,7 @@ diamond-ordered =
     ordered-told 4 diamond refl (omega arith) (0 ∷ 1 ∷ 2 ∷ 3 ∷ []) (at 1 0 ∷ at 2 1 ∷ at 3 2 ∷ at 4 3 ∷ []) four refl refl
 
 before-itself-clashes : Clash before-itself
-before-itself-clashes = torn-clashes before-itself (inl (refl, (stay, stay)))
+before-itself-clashes = impossible-clashes before-itself (inl (refl, (stay, stay)))
 
 pub worked : Worked
 worked = (both-ways-ordered, diamond-ordered, before-itself-clashes)

@@ -5,6 +5,7 @@ pub mod Finite
 pub mod FreeIsReady
 pub mod Groups
 pub mod Growth
+pub mod Impossible
 pub mod Most
 pub mod Moves
 pub mod Obeyed
@@ -22,6 +23,5 @@ pub mod Seats
 pub mod Sequences
 pub mod Spread
 pub mod Tables
-pub mod Torn
 pub mod Trials
 pub mod Verdict

@@ -8,16 +8,16 @@ use lib.ListN.{getD}
 use Rattle.algebra.specs.Placements.{Row, ObeysAll}
 use Rattle.scene.specs.Scenes.{Agree, all-fit}
 use Rattle.graph.specs.declared.order.Entry.{Entry}
-use Rattle.graph.specs.Orders.{Seated, blank, placing}
+use Rattle.graph.specs.Orders.{EntryOf, blank, placing}
 use Rattle.graph.specs.Reaching.{Tells}
 use Rattle.graph.proofs.Groups.{group-turned}
-use Rattle.graph.proofs.Rising.{torn-clashes}
+use Rattle.graph.proofs.Rising.{impossible-clashes}
 use Rattle.graph.proofs.Sequences.{Sequence, Sits, sits-back, sits-once, sits-together}
 use Rattle.graph.proofs.Spread.{Spread, spread-obeys}
 
 -- places by turns are spread so
 pub seats-spread : (n : ℕ) (rs : List Row) → all-fit n rs ≡ true → n ≤ 256 → (t : ℕ → ℕ → Bool) → Tells t rs
-    → (ls : List ℕ) → Sequence n rs ls → (es : List Entry) → ((m : ℕ) → m < n → Seated rs ls m (getD es m blank))
+    → (ls : List ℕ) → Sequence n rs ls → (es : List Entry) → ((m : ℕ) → m < n → EntryOf rs ls m (getD es m blank))
     → Spread n rs (λ m. getD es m blank .place)
 seats-spread n rs own few t tells ls q es seats = record {
   up = λ x y hx hy p. (
@@ -34,7 +34,7 @@ seats-spread n rs own few t tells ls q es seats = record {
 
 -- the entries of all turns obey rows that agree
 pub turns-obey : (n : ℕ) (rs : List Row) → all-fit n rs ≡ true → n ≤ 256 → (t : ℕ → ℕ → Bool) → Tells t rs
-    → (ls : List ℕ) → Sequence n rs ls → (es : List Entry) → ((m : ℕ) → m < n → Seated rs ls m (getD es m blank))
+    → (ls : List ℕ) → Sequence n rs ls → (es : List Entry) → ((m : ℕ) → m < n → EntryOf rs ls m (getD es m blank))
     → Agree rs → ObeysAll (placing es) rs
 turns-obey n rs own few t tells ls q es seats agree =
-    spread-obeys n rs (λ m. getD es m blank .place) (seats-spread n rs own few t tells ls q es seats) own (λ torn. torn-clashes rs torn agree)
+    spread-obeys n rs (λ m. getD es m blank .place) (seats-spread n rs own few t tells ls q es seats) own (λ some. impossible-clashes rs some agree)

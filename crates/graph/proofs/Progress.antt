@@ -16,7 +16,7 @@ use Rattle.algebra.specs.Placements.{Row}
 use Rattle.scene.specs.Scenes.{all-fit}
 use Rattle.graph.specs.declared.order.Entry.{Entry}
 use Rattle.graph.specs.Free.{Free, Grouped}
-use Rattle.graph.specs.Orders.{Beyond, Ordered, Seated, blank}
+use Rattle.graph.specs.Orders.{Beyond, Ordered, EntryOf, blank}
 use Rattle.graph.specs.Reaching.{Tells}
 use Rattle.graph.specs.Steps.{SameGroup, Leads}
 use Rattle.graph.specs.Turned.{turned}
@@ -36,7 +36,7 @@ pub record State (n : ℕ) (rs : List Row) (old new : List Entry) (marked : ℕ 
   pub turns : Turns n rs placed
   pub long : length placed ≡ places
   pub marks : (v : ℕ) → v < 256 → Decides (marked v) (Placed rs placed v)
-  pub seats : (m : ℕ) → m < n → Placed rs placed m → Seated rs placed m (getD new m blank)
+  pub seats : (m : ℕ) → m < n → Placed rs placed m → EntryOf rs placed m (getD new m blank)
   pub rest : Beyond n old new
   pub left : places + unmarked marked n ≤ n
 
@@ -52,7 +52,7 @@ state-start n rs es marked none = record {
 }
 
 -- the entry of a leader's group
-pub seated-last : (rs : List Row) (ls : List ℕ) (l x places : ℕ) → length ls ≡ places → Leads rs l l → SameGroup rs l x → Seated rs (ls ++ l ∷ []) x (record { place = places + 1; leader = l })
+pub seated-last : (rs : List Row) (ls : List ℕ) (l x places : ℕ) → length ls ≡ places → Leads rs l l → SameGroup rs l x → EntryOf rs (ls ++ l ∷ []) x (record { place = places + 1; leader = l })
 seated-last rs ls l x places long leads g = (
   (group-turned rs l x g, λ k h. leads .1 k (group-join rs l x k g h)),
   omega arith,
@@ -60,7 +60,7 @@ seated-last rs ls l x places long leads g = (
 )
 
 -- an entry stays when one more leader has a place
-pub seated-more : (rs : List Row) (ls : List ℕ) (l x : ℕ) (e : Entry) → Seated rs ls x e → Seated rs (ls ++ l ∷ []) x e
+pub seated-more : (rs : List Row) (ls : List ℕ) (l x : ℕ) (e : Entry) → EntryOf rs ls x e → EntryOf rs (ls ++ l ∷ []) x e
 seated-more rs ls l x e s = (s .0, s .1, nth-more ls l (e .place - 1) (e .leader) (s .2))
 
 module _ (n : ℕ) (rs : List Row) (own : all-fit n rs ≡ true) (few : n ≤ 256) (t : ℕ → ℕ → Bool) (tells : Tells t rs)
@@ -93,14 +93,14 @@ module _ (n : ℕ) (rs : List Row) (own : all-fit n rs ≡ true) (few : n ≤ 25
             | inr h ↦ h
           ]
 
-      seats-now : (x : ℕ) → x < n → Placed rs (s .placed ++ m ∷ []) x → Seated rs (s .placed ++ m ∷ []) x (getD later x blank)
+      seats-now : (x : ℕ) → x < n → Placed rs (s .placed ++ m ∷ []) x → EntryOf rs (s .placed ++ m ∷ []) x (getD later x blank)
       seats-now x hx p =
           let d = decides-same n rs own few t tells m x hm hx in
           let e : Entry = record { place = places + 1; leader = m } in
           elim (cases-bool (t m x && t x m)) [
-            | inl h ↦ subst (λ v. Seated rs (s .placed ++ m ∷ []) x v) (sym (written .1 x hx blank ∙ cond-true (t m x && t x m) e (getD new x blank) h))
+            | inl h ↦ subst (λ v. EntryOf rs (s .placed ++ m ∷ []) x v) (sym (written .1 x hx blank ∙ cond-true (t m x && t x m) e (getD new x blank) h))
                 (seated-last rs (s .placed) m x places (s .long) (ready .1) (d .0 h))
-            | inr h ↦ subst (λ v. Seated rs (s .placed ++ m ∷ []) x v) (sym (written .1 x hx blank ∙ cond-false (t m x && t x m) e (getD new x blank) h))
+            | inr h ↦ subst (λ v. EntryOf rs (s .placed ++ m ∷ []) x v) (sym (written .1 x hx blank ∙ cond-false (t m x && t x m) e (getD new x blank) h))
                 (elim (placed-cases rs (s .placed) m x p) [
                   | inl q ↦ seated-more rs (s .placed) m x (getD new x blank) (s .seats x hx q)
                   | inr g ↦ absurd (both-ways (t m x && t x m) h (d .1 g))

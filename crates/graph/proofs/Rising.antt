@@ -1,4 +1,4 @@
--- A placement that obeys rows rises along their paths, so a row that is torn leaves none.
+-- A placement that obeys rows rises along their paths, so an impossible row leaves none.
 use mathlib.Core.Path.{_≡_, subst, subst₂}
 use mathlib.Core.Bool.{true, false}
 use mathlib.Core.List.{List, [], _∷_}
@@ -16,7 +16,7 @@ use Rattle.algebra.specs.declared.points.Relation.the-variants.{Before, Togethe
 use Rattle.algebra.proofs.Signs.{trichotomy}
 use Rattle.scene.specs.Scenes.{Clash}
 use Rattle.graph.specs.Steps.{Path, stay, onward, Step, StepOf, SameGroup}
-use Rattle.graph.specs.Clashes.{SomeTorn}
+use Rattle.graph.specs.Clashes.{SomeImpossible}
 
 -- whatever relation but after holds of two numbers, the first is not the larger
 up : (a b : ℤ) (s : ℕ) → has s After ≡ false → (q : Relation) → Holds q a b → has s q ≡ true → a ≤ℤ b
@@ -57,11 +57,11 @@ level a b h k = omega (arith, ints)
 pub group-level : (p : Placement) (rs : List Row) → ObeysAll p rs → (x y : ℕ) → SameGroup rs x y → p x ≡ p y
 group-level p rs o x y s = level (p x) (p y) (path-rises p rs o (s .0)) (path-rises p rs o (s .1))
 
-torn-stops : (p : Placement) (all rs : List Row) → ObeysAll p all → ObeysAll p rs → SomeTorn all rs → ⊥
-torn-stops p all [] o os t = t
-torn-stops p all (r ∷ rs) o os (inl t) = both-ways (has (r .1) Together) (t .0) (os .0 Together (group-level p all o (r .0) (r .2) (t .1)))
-torn-stops p all (r ∷ rs) o os (inr t) = torn-stops p all rs o (os .1) t
+impossible-stops : (p : Placement) (all rs : List Row) → ObeysAll p all → ObeysAll p rs → SomeImpossible all rs → ⊥
+impossible-stops p all [] o os t = t
+impossible-stops p all (r ∷ rs) o os (inl t) = both-ways (has (r .1) Together) (t .0) (os .0 Together (group-level p all o (r .0) (r .2) (t .1)))
+impossible-stops p all (r ∷ rs) o os (inr t) = impossible-stops p all rs o (os .1) t
 
--- where a row is torn, no placement obeys all
-pub torn-clashes : (rs : List Row) → SomeTorn rs rs → Clash rs
-torn-clashes rs t agree = torn-stops (agree .0) rs rs (agree .1) (agree .1) t
+-- where a row is impossible, no placement obeys all
+pub impossible-clashes : (rs : List Row) → SomeImpossible rs rs → Clash rs
+impossible-clashes rs t agree = impossible-stops (agree .0) rs rs (agree .1) (agree .1) t

@@ -1,4 +1,4 @@
--- Numbers that go up along paths, and that only a group shares, obey rows none of which is torn.
+-- Numbers that go up along paths, and that only a group shares, obey rows none of which is impossible.
 use mathlib.Core.Path.{_≡_, refl}
 use mathlib.Core.Bool.{Bool, true, false, _&&_}
 use mathlib.Core.List.{List, [], _∷_}
@@ -13,7 +13,7 @@ use Rattle.algebra.specs.Placements.{Row, Placement, Obeys, ObeysAll}
 use Rattle.algebra.specs.Points.{has}
 use Rattle.algebra.specs.declared.points.Relation.the-variants.{Before, Together, After}
 use Rattle.scene.specs.Scenes.{all-fit, names, ranged}
-use Rattle.graph.specs.Clashes.{SomeTorn, Torn}
+use Rattle.graph.specs.Clashes.{SomeImpossible, Impossible}
 use Rattle.graph.specs.Steps.{Path, stay, onward, Step, StepOf, SameGroup}
 use Rattle.graph.proofs.Paths.{row-ends}
 
@@ -36,19 +36,19 @@ is-true true h = refl
 is-true false h = absurd (h refl)
 
 module _ (n : ℕ) (rs : List Row) (f : ℕ → ℕ) (spread : Spread n rs f) where
-  row-obeyed : (r : Row) → r .0 < n → r .2 < n → ((x y : ℕ) → StepOf r x y → Step rs x y) → (Torn rs r → ⊥) → Obeys (numbers f) r
+  row-obeyed : (r : Row) → r .0 < n → r .2 < n → ((x y : ℕ) → StepOf r x y → Step rs x y) → (Impossible rs r → ⊥) → Obeys (numbers f) r
   row-obeyed r hx hy sub whole Before h = is-true (has (r .1) Before) (λ e.
       omega (arith, pos-under (f (r .0)) (f (r .2)) h, spread .up (r .2) (r .0) hy hx (onward (sub (r .2) (r .0) (inr (refl, refl, e))) stay)))
   row-obeyed r hx hy sub whole Together h = is-true (has (r .1) Together) (λ e. whole (e, spread .one (r .0) (r .2) hx hy (pos-same (f (r .0)) (f (r .2)) h)))
   row-obeyed r hx hy sub whole After h = is-true (has (r .1) After) (λ e.
       omega (arith, pos-under (f (r .2)) (f (r .0)) h, spread .up (r .0) (r .2) hx hy (onward (sub (r .0) (r .2) (inl (refl, refl, e))) stay)))
 
-  rows-obeyed : (qs : List Row) → all-fit n qs ≡ true → ((x y : ℕ) → Step qs x y → Step rs x y) → (SomeTorn rs qs → ⊥) → ObeysAll (numbers f) qs
+  rows-obeyed : (qs : List Row) → all-fit n qs ≡ true → ((x y : ℕ) → Step qs x y → Step rs x y) → (SomeImpossible rs qs → ⊥) → ObeysAll (numbers f) qs
   rows-obeyed [] fit sub whole = tt
   rows-obeyed (r ∷ qs) fit sub whole =
       let parts = and-parts (names n r && ranged r) (all-fit n qs) fit in
       let ends = row-ends n r (parts .0) in
       (row-obeyed r (ends .0) (ends .1) (λ x y s. sub x y (inl s)) (λ t. whole (inl t)), rows-obeyed qs (parts .1) (λ x y s. sub x y (inr s)) (λ t. whole (inr t)))
 
-  pub spread-obeys : all-fit n rs ≡ true → (SomeTorn rs rs → ⊥) → ObeysAll (numbers f) rs
+  pub spread-obeys : all-fit n rs ≡ true → (SomeImpossible rs rs → ⊥) → ObeysAll (numbers f) rs
   spread-obeys own whole = rows-obeyed rs own (λ x y s. s) whole

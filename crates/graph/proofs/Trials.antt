@@ -16,7 +16,7 @@ use Rattle.std.proofs.shelf.Ways.{not-from-decides}
 use Rattle.algebra.specs.Placements.{Row}
 use Rattle.scene.specs.Scenes.{all-fit}
 use Rattle.graph.specs.declared.order.Entry.{Entry}
-use Rattle.graph.specs.Orders.{Ordered, Seated, blank}
+use Rattle.graph.specs.Orders.{Ordered, EntryOf, blank}
 use Rattle.graph.specs.Reaching.{Tells}
 use Rattle.graph.specs.Steps.{Leads}
 use Rattle.graph.specs.Turns.{Placed, Turns, turn}
@@ -118,7 +118,7 @@ module _ (n : ℕ) (rs : List Row) (own : all-fit n rs ≡ true) (few : n ≤ 25
             leb-true l k (from-implied (t m k && t k m) (leb l k) (each-at (λ v. not (t m v && t v m) || leb l v) n k (p .1) hk) (same m k hm hk .1 g)),
       )
 
-  entered-told : (ls : List ℕ) (m : ℕ) (e : Entry) → m < n → entered n (table rs) ls m e ≡ true → Seated rs ls m e
+  entered-told : (ls : List ℕ) (m : ℕ) (e : Entry) → m < n → entered n (table rs) ls m e ≡ true → EntryOf rs ls m e
   entered-told ls m e hm h =
       let t = table rs in
       let p = and-parts (ltb (e .leader) n && leads n t (e .leader) m) (leb 1 (e .place) && (ltb (e .place - 1) (length ls) && eqb (getD ls (e .place - 1) 0) (e .leader))) h in

@@ -9,15 +9,15 @@ use Rattle.algebra.specs.declared.points.Relation.the-variants.{Together}
 use Rattle.scene.specs.Scenes.{Clash}
 use Rattle.graph.specs.Steps.{SameGroup}
 
--- a row that lacks together has both ends in one group of the rows all
-abbrev pub Torn : List Row → Row → Type 0
-Torn all r = (has (r .1) Together ≡ false) × SameGroup all (r .0) (r .2)
+-- a row that cannot be obeyed together with all: it lacks together, and both its ends are in one group
+abbrev pub Impossible : List Row → Row → Type 0
+Impossible all r = (has (r .1) Together ≡ false) × SameGroup all (r .0) (r .2)
 
--- some row of the list is torn
-abbrev pub SomeTorn : List Row → List Row → Type 0
-SomeTorn all [] = ⊥
-SomeTorn all (r ∷ rs) = Torn all r ⊎ SomeTorn all rs
+-- some row of the list is impossible
+abbrev pub SomeImpossible : List Row → List Row → Type 0
+SomeImpossible all [] = ⊥
+SomeImpossible all (r ∷ rs) = Impossible all r ⊎ SomeImpossible all rs
 
--- rows clash exactly when some row that lacks together has both ends in one group
-abbrev pub ClashIsTorn : List Row → Type 0
-ClashIsTorn rs = (Clash rs → SomeTorn rs rs) × (SomeTorn rs rs → Clash rs)
+-- rows clash exactly when some row lacking together has both ends in one group
+abbrev pub ClashTheorem : List Row → Type 0
+ClashTheorem rs = (Clash rs → SomeImpossible rs rs) × (SomeImpossible rs rs → Clash rs)

@@ -20,13 +20,13 @@ abbrev pub blank : Entry
 blank = record { place = 0; leader = 0 }
 
 -- the entry of m has its group's leader, and the place that this leader took, counted from 1
-abbrev pub Seated : List Row → List ℕ → ℕ → Entry → Type 0
-Seated rs placed m e = Leads rs (e .leader) m × (1 ≤ e .place) × (nth placed (e .place - 1) ≡ Some (e .leader))
+abbrev pub EntryOf : List Row → List ℕ → ℕ → Entry → Type 0
+EntryOf rs placed m e = Leads rs (e .leader) m × (1 ≤ e .place) × (nth placed (e .place - 1) ≡ Some (e .leader))
 
 -- the entries of n moments have the places and leaders of all turns, and count is the number of places
 abbrev pub Ordered : ℕ → List Row → List Entry → ℕ → Type 0
 Ordered n rs entries count =
-    (placed : List ℕ) × (AllTurns n rs placed × (length placed ≡ count) × ((m : ℕ) → m < n → Seated rs placed m (getD entries m blank)))
+    (placed : List ℕ) × (AllTurns n rs placed × (length placed ≡ count) × ((m : ℕ) → m < n → EntryOf rs placed m (getD entries m blank)))
 
 -- the entries read as a placement
 abbrev pub placing : List Entry → Placement

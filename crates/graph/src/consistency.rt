@@ -6,27 +6,27 @@ ghost use Rattle.std.specs.Orderings.{Decides};
 ghost use Rattle.algebra.specs.Points.{has};
 ghost use Rattle.algebra.specs.declared.points.Relation.the-variants.{Together};
 ghost use Rattle.scene.specs.Scenes.{Agree, Clash};
-ghost use Rattle.graph.specs.Clashes.{ClashIsTorn, SomeTorn};
+ghost use Rattle.graph.specs.Clashes.{ClashTheorem, SomeImpossible};
 ghost use Rattle.graph.specs.Reaching.{Tells, reaches};
 use crate::closure::Closure;
 use algebra::points::Relation;
 use scene::sources::Source;
 
 // Whether a row lacks together and has both ends in one group.
-fn is_torn(closure: &Closure, left: u8, set: u8, right: u8) -> bool
+fn is_impossible(closure: &Closure, left: u8, set: u8, right: u8) -> bool
     ensures { λ r. ⌜ r ≡ (not (has set Together) && (reaches (now (closure .entry) .rows) left right && reaches (now (closure .entry) .rows) right left)) ⌝ }
 {
     !Relation::Together.is_in(set) && closure.same_group(left, right)
 }
 
 // Whether some row of the source is so.
-fn has_torn_row<S: Source>(source: &S, closure: &Closure) -> bool
+fn has_impossible_row<S: Source>(source: &S, closure: &Closure) -> bool
     requires { ⌜ Tells (reaches (now closure .rows)) (scene (now source) .rows) ⌝ }
-    ensures { λ r. ⌜ Decides r (SomeTorn (scene (now (source .entry)) .rows) (scene (now (source .entry)) .rows)) ⌝ }
+    ensures { λ r. ⌜ Decides r (SomeImpossible (scene (now (source .entry)) .rows) (scene (now (source .entry)) .rows)) ⌝ }
 {
     for position in 0..source.count() {
         if let Some((left, set, right)) = source.row(position) {
-            if is_torn(closure, left as u8, set, right as u8) {
+            if is_impossible(closure, left as u8, set, right as u8) {
                 return true;
             }
         }
@@ -39,7 +39,7 @@ pub fn closure_without_clash<S: Source>(source: &S) -> Option<Closure>
     ensures { λ r. ⌜ Cases r (Clash (scene (now (source .entry)) .rows)) (λ c. Agree (scene (now (source .entry)) .rows) × Tells (reaches (c .rows)) (scene (now (source .entry)) .rows)) ⌝ }
 {
     let closure = Closure::of(source);
-    if has_torn_row(source, &closure) {
+    if has_impossible_row(source, &closure) {
         None
     } else {
         Some(closure)
@@ -49,7 +49,7 @@ pub fn closure_without_clash<S: Source>(source: &S) -> Option<Closure>
 // Whether some placement obeys all rows of a source.
 pub fn consistent<S: Source>(source: &S) -> bool
     ensures agrees { λ r. ⌜ Decides r (Agree (scene (now (source .entry)) .rows)) ⌝ }
-    ensures torn { λ _. ⌜ ClashIsTorn (scene (now (source .entry)) .rows) ⌝ }
+    ensures theorem { λ _. ⌜ ClashTheorem (scene (now (source .entry)) .rows) ⌝ }
 {
     closure_without_clash(source).is_some()
 }

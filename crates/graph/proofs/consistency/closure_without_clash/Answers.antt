@@ -1,12 +1,12 @@
 use Rattle.std.proofs.shelf.Ways.{not-from-decides}
-use Rattle.graph.proofs.Rising.{torn-clashes}
+use Rattle.graph.proofs.Rising.{impossible-clashes}
 use Rattle.graph.proofs.Verdict.{whole-agrees}
 use Rattle.graph.proofs.consistency.closure_without_clash.Needs as need
 
-pub returns-then-has-torn-row : need.returns-then-has-torn-row
-returns-then-has-torn-row g c = torn-clashes (g .S·Source .scene (c .args .source .now) .rows) (c .has-torn-row .ensures .0 (c .if-has-torn-row .taken))
+pub returns-then-has-impossible-row : need.returns-then-has-impossible-row
+returns-then-has-impossible-row g c = impossible-clashes (g .S·Source .scene (c .args .source .now) .rows) (c .has-impossible-row .ensures .0 (c .if-has-impossible-row .taken))
 
-pub returns-else-has-torn-row : need.returns-else-has-torn-row
-returns-else-has-torn-row g c =
+pub returns-else-has-impossible-row : need.returns-else-has-impossible-row
+returns-else-has-impossible-row g c =
     let s = g .S·Source .scene (c .args .source .now) in
-    (whole-agrees (s .moments) (s .rows) (s .lawful .few) (s .lawful .own) (not-from-decides (c .has-torn-row .result) (c .has-torn-row .ensures) (c .if-has-torn-row .left)), c .of-closure .ensures)
+    (whole-agrees (s .moments) (s .rows) (s .lawful .few) (s .lawful .own) (not-from-decides (c .has-impossible-row .result) (c .has-impossible-row .ensures) (c .if-has-impossible-row .left)), c .of-closure .ensures)

@@ -8,7 +8,7 @@ use Rattle.std.proofs.shelf.Tests.{false≢true}
 use Rattle.std.proofs.shelf.Ways.{decides-at}
 use Rattle.algebra.specs.Placements.{Row}
 use Rattle.scene.specs.Scenes.{Agree, Clash}
-use Rattle.graph.proofs.Verdict.{clash-is-torn}
+use Rattle.graph.proofs.Verdict.{clash-theorem}
 use Rattle.graph.proofs.consistency.consistent.Needs as need
 
 -- an answer is there just where the rows agree
@@ -21,5 +21,5 @@ returns g c =
     let s = g .S·Source .scene (c .args .source .now) in
     record {
       agrees = decides-at (c .is-some .result) (isSome (c .closure-without-clash .result)) (c .is-some .ensures) (there (s .rows) _ (c .closure-without-clash .result) (c .closure-without-clash .ensures));
-      torn = clash-is-torn (s .moments) (s .rows) (s .lawful .few) (s .lawful .own);
+      theorem = clash-theorem (s .moments) (s .rows) (s .lawful .few) (s .lawful .own);
     }
