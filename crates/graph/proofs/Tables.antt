@@ -21,7 +21,7 @@ use Rattle.graph.proofs.Paths.{path-join, path-map, row-ends}
 abbrev Plus : (ℕ → ℕ → Type 0) → ℕ → ℕ → ℕ → ℕ → Type 0
 Plus E p q x y = E x y ⊎ ((x ≡ p) × (y ≡ q))
 
--- a path with one more step is one without it, or one to its start and one from its end
+-- the new step left out: the path did without it, or it led to where the step starts, and on from where it ends
 plus-split : (E : ℕ → ℕ → Type 0) (p q : ℕ) {x y : ℕ} → Path (Plus E p q) x y → Path E x y ⊎ (Path E x p × Path E q y)
 plus-split E p q stay = inl stay
 plus-split E p q (onward {x = x} {y = y} {z = z} (inl e) r) =

@@ -18,6 +18,6 @@ abbrev pub SomeImpossible : List Row → List Row → Type 0
 SomeImpossible all [] = ⊥
 SomeImpossible all (r ∷ rs) = Impossible all r ⊎ SomeImpossible all rs
 
--- rows clash exactly when some row lacking together has both ends in one group
+-- rows clash if and only if one of them is impossible in this sense
 abbrev pub ClashTheorem : List Row → Type 0
 ClashTheorem rs = (Clash rs → SomeImpossible rs rs) × (SomeImpossible rs rs → Clash rs)
