@@ -14,11 +14,8 @@ use Rattle.std.proofs.shelf.Ways.{tells}
 use Rattle.std.proofs.shelf.Tests.{cases-eq, cases-order, eq-eqb, ne-eqb, eqb-true, or-left}
 use native.Mathlib.Nat.{div-eq-of-lt, div-self, div-one, pow-suc}
 use Rattle.std.proofs.shelf.Bits.{shr-shr, pow-add, pow-pos, shl-shr, pow-below, one-shl}
+use Rattle.scene.proofs.Marking.{or-false}
 use Rattle.graph.specs.Sets.{bit, pair}
-
-or-false : (b : Bool) → (b || false) ≡ b
-or-false true = refl
-or-false false = refl
 
 pub same-test : (a b c d : ℕ) → (a ≡ b → c ≡ d) → (c ≡ d → a ≡ b) → eqb a b ≡ eqb c d
 same-test a b c d f g = elim (cases-eq a b) [ inl e ↦ eq-eqb a b e ∙ sym (eq-eqb c d (f e)) | inr ne ↦ ne-eqb a b ne ∙ sym (ne-eqb c d (λ e. ne (g e))) ]

@@ -9,6 +9,7 @@ use lib.Dec.{eqb}
 use lib.ListN.{getD, set, length}
 use lib.Seq.{getD-set-same, getD-set-other}
 use Rattle.std.proofs.shelf.Tests.{cases-eq, eq-eqb, ne-eqb}
+use Rattle.scene.proofs.Marking.{or-false}
 use Rattle.graph.specs.declared.moments.Moments.{Moments}
 use Rattle.graph.specs.Sets.{holds, pair}
 use Rattle.graph.specs.Reaching.{reaches, none, put}
@@ -34,10 +35,6 @@ change-more old cur told i row inv l is = (
 and-false : (b : Bool) → (b && false) ≡ false
 and-false true = refl
 and-false false = refl
-
-or-false : (b : Bool) → (b || false) ≡ b
-or-false true = refl
-or-false false = refl
 
 -- the row of p takes q, where it is told to
 pub put-row : (rows : List Moments) (told : Bool) (p q : ℕ) (row : Moments) → p < length rows

@@ -1,6 +1,7 @@
 pub mod BitLaws
 pub mod ByHand
 pub mod Closed
+pub mod Counting
 pub mod Finite
 pub mod FreeIsReady
 pub mod Groups

@@ -9,6 +9,7 @@ use lib.Dec.{eqb, ltb}
 use lib.ListN.{getD, length, set}
 use Rattle.std.proofs.shelf.Lists.{length-set, getD-set-same, getD-set-other}
 use Rattle.std.proofs.shelf.Tests.{cases-eq, cases-lt, cond-true, cond-false, eq-eqb, ne-eqb, lt-ltb, le-ltb}
+use Rattle.scene.proofs.Marking.{or-false}
 use Rattle.graph.specs.declared.order.Entry.{Entry}
 use Rattle.graph.specs.Free.{Grouped}
 
@@ -44,10 +45,6 @@ Marks P old i cur = (v : ℕ) → v < 256 → cur v ≡ (old v || (ltb v i && P 
 or-true : (b : Bool) → (b || true) ≡ true
 or-true true = refl
 or-true false = refl
-
-or-false : (b : Bool) → (b || false) ≡ b
-or-false true = refl
-or-false false = refl
 
 same-below : (v i : ℕ) → (v ≡ i → ⊥) → ltb v (i + 1) ≡ ltb v i
 same-below v i ne = elim (cases-lt v i) [ inl lt ↦ lt-ltb v (i + 1) (omega arith) ∙ sym (lt-ltb v i lt) | inr le ↦ le-ltb v (i + 1) (omega arith) ∙ sym (le-ltb v i le) ]

@@ -1,6 +1,6 @@
 -- Numbers that go up along paths, and that only a group shares, obey rows none of which is impossible.
 use mathlib.Core.Path.{_≡_, refl}
-use mathlib.Core.Bool.{Bool, true, false, _&&_}
+use mathlib.Core.Bool.{true, _&&_}
 use mathlib.Core.List.{List, [], _∷_}
 use mathlib.Core.Logic.{inl, inr}
 use Prim.Native.Nat.{ℕ, _<_, _≤_}
@@ -13,6 +13,7 @@ use Rattle.algebra.specs.Placements.{Row, Placement, Obeys, ObeysAll}
 use Rattle.algebra.specs.Points.{has}
 use Rattle.algebra.specs.declared.points.Relation.the-variants.{Before, Together, After}
 use Rattle.scene.specs.Scenes.{all-fit, names, ranged}
+use Rattle.scene.proofs.RowByRow.{is-true}
 use Rattle.graph.specs.Clashes.{SomeImpossible, Impossible}
 use Rattle.graph.specs.Steps.{Path, stay, onward, Step, StepOf, SameGroup}
 use Rattle.graph.proofs.Paths.{row-ends}
@@ -30,10 +31,6 @@ pos-under a b h = omega (arith, ints)
 
 pos-same : (a b : ℕ) → pos a ≡ pos b → a ≡ b
 pos-same a b h = omega (arith, ints)
-
-is-true : (b : Bool) → (b ≡ false → ⊥) → b ≡ true
-is-true true h = refl
-is-true false h = absurd (h refl)
 
 module _ (n : ℕ) (rs : List Row) (f : ℕ → ℕ) (spread : Spread n rs f) where
   row-obeyed : (r : Row) → r .0 < n → r .2 < n → ((x y : ℕ) → StepOf r x y → Step rs x y) → (Impossible rs r → ⊥) → Obeys (numbers f) r

@@ -32,6 +32,12 @@ Ordered n rs entries count =
 abbrev pub placing : List Entry → Placement
 placing entries m = pos (getD entries m blank .place)
 
+-- the places of n moments are the numbers from 1 to count: each moment has one of them, and each of them has a moment
+abbrev pub CountsPlaces : ℕ → List Entry → ℕ → Type 0
+CountsPlaces n entries count =
+    ((m : ℕ) → m < n → (1 ≤ getD entries m blank .place) × (getD entries m blank .place ≤ count))
+    × ((k : ℕ) → 1 ≤ k → k ≤ count → (m : ℕ) × ((m < n) × (getD entries m blank .place ≡ k)))
+
 -- the moments of a list have separate numbers
 abbrev pub Separate : Placement → List ℕ → Type 0
 Separate p [] = Unit {0}
@@ -42,9 +48,13 @@ abbrev pub MostPlaces : ℕ → List Row → ℕ → Type 0
 MostPlaces n rs count =
     (p : Placement) → ObeysAll p rs → (ms : List ℕ) → ((m : ℕ) → In m ms → m < n) → Separate p ms → length ms ≤ count
 
--- what an order owes: the places and leaders of all turns, which obey every row, and no placement has more places
-abbrev pub Owed : Scene → List Entry → ℕ → Type 0
-Owed s entries count = Ordered (s .moments) (s .rows) entries count × ObeysAll (placing entries) (s .rows) × MostPlaces (s .moments) (s .rows) count
+-- what an order owes: the places and leaders of all turns; how many places these are; that they obey every row; and
+-- that no placement which does has more separate numbers
+pub record Owed (s : Scene) (entries : List Entry) (count : ℕ) : Type 0 where
+  pub ordered : Ordered (s .moments) (s .rows) entries count
+  pub counted : CountsPlaces (s .moments) entries count
+  pub obeyed : ObeysAll (placing entries) (s .rows)
+  pub most : MostPlaces (s .moments) (s .rows) count
 
 -- while a group has no place one is ready, and the turns are one list
 abbrev pub OneOrder : Scene → Type 0

@@ -4,6 +4,7 @@ ghost use mathlib.Core.Bool.{true, _&&_};
 ghost use Prim.Native.Nat.{ℕ, _+_, _%_, _<_};
 ghost use lib.Dec.{eqb};
 ghost use mathlib.Core.List.{List, []};
+ghost use Rattle.std.specs.shelf.Maps.{nth};
 ghost use Rattle.algebra.specs.Placements.{Row};
 ghost use Rattle.graph.specs.Sets.{holds};
 ghost use Rattle.graph.specs.Within.{TellsWithin};
@@ -99,14 +100,22 @@ fn put_steps(rows: &mut [Moments; 256], left: u8, set: u8, right: u8)
     rows[right as usize].put_if(!Relation::Before.is_in(set), left);
 }
 
+// The row at a position. Its moments are below 256, so that each is a byte.
+pub(crate) fn byte_row<S: Source>(source: &S, position: usize) -> Option<(u8, u8, u8)>
+    ensures { λ r. ⌜ r ≡ nth (scene (now (source .entry)) .rows) position ⌝ }
+{
+    let (left, set, right) = source.row(position)?;
+    Some((left as u8, set, right as u8))
+}
+
 // Each moment with those that one step leads to.
 fn steps_of<S: Source>(source: &S) -> [Moments; 256]
     ensures { λ r. ⌜ TellsSteps (reaches r) (scene (now (source .entry)) .rows) ⌝ }
 {
     let mut rows = alone();
     for position in 0..source.count() {
-        if let Some((left, set, right)) = source.row(position) {
-            put_steps(&mut rows, left as u8, set, right as u8);
+        if let Some((left, set, right)) = byte_row(source, position) {
+            put_steps(&mut rows, left, set, right);
         }
     }
     rows

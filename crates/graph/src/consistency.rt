@@ -9,6 +9,7 @@ ghost use Rattle.scene.specs.Scenes.{Agree, Clash};
 ghost use Rattle.graph.specs.Clashes.{ClashTheorem, SomeImpossible};
 ghost use Rattle.graph.specs.Reaching.{Tells, reaches};
 use crate::closure::Closure;
+use crate::closure::byte_row;
 use algebra::points::Relation;
 use scene::sources::Source;
 
@@ -25,8 +26,8 @@ fn has_impossible_row<S: Source>(source: &S, closure: &Closure) -> bool
     ensures { λ r. ⌜ Decides r (SomeImpossible (scene (now (source .entry)) .rows) (scene (now (source .entry)) .rows)) ⌝ }
 {
     for position in 0..source.count() {
-        if let Some((left, set, right)) = source.row(position) {
-            if is_impossible(closure, left as u8, set, right as u8) {
+        if let Some((left, set, right)) = byte_row(source, position) {
+            if is_impossible(closure, left, set, right) {
                 return true;
             }
         }

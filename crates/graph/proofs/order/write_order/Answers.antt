@@ -3,7 +3,7 @@ use mathlib.Core.Logic.{inl, inr}
 use native.Mathlib.Omega.{arith}
 use Rattle.graph.specs.Reaching.{reaches}
 use Rattle.graph.proofs.ByHand.{worked}
-use Rattle.graph.proofs.Outcome.{one-order, ordered-most, ordered-obeys}
+use Rattle.graph.proofs.Outcome.{one-order, ordered-owed}
 use Rattle.graph.proofs.order.write_order.Needs as need
 
 pub returns-then-entries-moments : need.returns-then-entries-moments
@@ -32,7 +32,7 @@ returns g c =
     record {
       answer = (
         ((λ h. omega (arith, h, c .if-entries-moments .left, c .moments .ensures)), ((λ h. h (e .0)), tt)),
-        (o, ordered-obeys s (reaches (c .in-Some .closure .rows)) (e .1) es k o (e .0), ordered-most s es k o),
+        ordered-owed s (reaches (c .in-Some .closure .rows)) (e .1) es k o (e .0),
       );
       list = c .place-all .ensures .rest;
       one = one-order s;
