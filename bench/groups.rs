@@ -111,22 +111,10 @@ impl Bits {
     }
 }
 
-/// Kosaraju's algorithm over bit rows, with a stack of its own.
-#[inline(never)]
-pub fn kosaraju(scene: &BenchScene) -> bool {
-    let mut next = [Bits([0; 4]); MOMENTS];
-    let mut before = [Bits([0; 4]); MOMENTS];
-    for row in &scene.rows {
-        let (onward, backward) = (row.set & AFTER == 0, row.set & BEFORE == 0);
-        next[row.left as usize].put_if(onward, row.right);
-        before[row.right as usize].put_if(onward, row.left);
-        next[row.right as usize].put_if(backward, row.left);
-        before[row.left as usize].put_if(backward, row.right);
-    }
-    let mut stack = [0; MOMENTS];
-
-    // The moments in the sequence in which a walk along steps leaves them.
+/// The moments in the sequence in which a walk along steps leaves them.
+fn left_in_turn(next: &[Bits; MOMENTS]) -> [usize; MOMENTS] {
     let mut unseen = Bits([u64::MAX; 4]);
+    let mut stack = [0; MOMENTS];
     let mut left = [0; MOMENTS];
     let mut count = 0;
     for start in 0..MOMENTS {
@@ -149,9 +137,13 @@ pub fn kosaraju(scene: &BenchScene) -> bool {
             }
         }
     }
+    left
+}
 
-    // From the last left to the first, whoever reaches it and has no group yet.
+/// The group of each moment: from the last left to the first, whoever reaches it and has no group yet.
+fn groups_of(before: &[Bits; MOMENTS], left: &[usize; MOMENTS]) -> [usize; MOMENTS] {
     let mut unseen = Bits([u64::MAX; 4]);
+    let mut stack = [0; MOMENTS];
     let mut group = [0; MOMENTS];
     for &root in left.iter().rev() {
         if !unseen.has(root) {
@@ -171,5 +163,20 @@ pub fn kosaraju(scene: &BenchScene) -> bool {
             }
         }
     }
-    possible(scene, &group)
+    group
+}
+
+/// Kosaraju's algorithm over bit rows, with a stack of its own.
+#[inline(never)]
+pub fn kosaraju(scene: &BenchScene) -> bool {
+    let mut next = [Bits([0; 4]); MOMENTS];
+    let mut before = [Bits([0; 4]); MOMENTS];
+    for row in &scene.rows {
+        let (onward, backward) = (row.set & AFTER == 0, row.set & BEFORE == 0);
+        next[row.left as usize].put_if(onward, row.right);
+        before[row.right as usize].put_if(onward, row.left);
+        next[row.right as usize].put_if(backward, row.left);
+        before[row.left as usize].put_if(backward, row.right);
+    }
+    possible(scene, &groups_of(&before, &left_in_turn(&next)))
 }
