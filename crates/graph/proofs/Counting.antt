@@ -12,8 +12,8 @@ use Rattle.algebra.specs.Placements.{Row}
 use Rattle.graph.specs.declared.order.Entry.{Entry}
 use Rattle.graph.specs.Orders.{CountsPlaces, EntryOf, Ordered, blank}
 use Rattle.graph.proofs.Groups.{group-self, group-turned}
-use Rattle.graph.proofs.Seats.{in-cases, nth-below, nth-in}
-use Rattle.graph.proofs.Sequences.{Sequence, begin, next, Sits, sits-once, turns-sequence}
+use Rattle.graph.proofs.LeaderLists.{in-cases, nth-below, nth-in}
+use Rattle.graph.proofs.Sequences.{Sequence, begin, next, IndexOf, index-once, turns-sequence}
 use Rattle.graph.specs.Turns.{In}
 
 -- the leaders placed are moments of the scene
@@ -21,9 +21,9 @@ leaders-below : (n : ℕ) (rs : List Row) {ls : List ℕ} → Sequence n rs ls �
 leaders-below n rs begin l h = absurd h
 leaders-below n rs (next {placed = ls} {l = k} q ready) l h = elim (in-cases l ls k h) [ inl i ↦ leaders-below n rs q l i | inr e ↦ subst (λ v. v < n) (sym e) (ready .0) ]
 
--- the entry of a moment says where it sits
-entry-sits : (rs : List Row) (ls : List ℕ) (m : ℕ) (e : Entry) → EntryOf rs ls m e → Sits rs ls m (e .place - 1)
-entry-sits rs ls m e h = (e .leader, (h .2, group-turned rs m (e .leader) (h .0 .0)))
+-- the entry of a moment says the index of its place
+entry-index : (rs : List Row) (ls : List ℕ) (m : ℕ) (e : Entry) → EntryOf rs ls m e → IndexOf rs ls m (e .place - 1)
+entry-index rs ls m e h = (e .leader, (h .2, group-turned rs m (e .leader) (h .0 .0)))
 
 pub counts-places : (n : ℕ) (rs : List Row) (es : List Entry) (count : ℕ) → Ordered n rs es count → CountsPlaces n es count
 counts-places n rs es count o =
@@ -39,6 +39,6 @@ counts-places n rs es count o =
           let there : nth ls (k - 1) ≡ Some l = nth-getD ls (k - 1) 0 (omega (arith, long)) in
           let hl = leaders-below n rs q l (nth-in ls (k - 1) l there) in
           let h = entries l hl in
-          let same = sits-once n rs q l (getD es l blank .place - 1) (k - 1) (entry-sits rs ls l (getD es l blank) h) (l, (there, group-self rs l)) in
+          let same = index-once n rs q l (getD es l blank .place - 1) (k - 1) (entry-index rs ls l (getD es l blank) h) (l, (there, group-self rs l)) in
           (l, (hl, omega (arith, same, low, h .1)))),
     )

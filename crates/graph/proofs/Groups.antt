@@ -15,7 +15,7 @@ use Rattle.graph.specs.Reaching.{Tells}
 use Rattle.graph.specs.Steps.{stay, SameGroup}
 use Rattle.graph.specs.Turns.{In, Placed}
 use Rattle.graph.proofs.Paths.{path-join, path-inside}
-use Rattle.graph.proofs.Seats.{in-more, in-last, in-cases}
+use Rattle.graph.proofs.LeaderLists.{in-more, in-last, in-cases}
 
 pub group-self : (rs : List Row) (x : ℕ) → SameGroup rs x x
 group-self rs x = (stay, stay)
@@ -47,9 +47,9 @@ abbrev pub grouped : ℕ → (ℕ → ℕ → Bool) → ℕ → ℕ → Bool
 grouped n t l v = ltb l n && (t l v && t v l)
 
 -- whether one of the leaders placed so far shares the group of v
-abbrev pub seated : ℕ → (ℕ → ℕ → Bool) → List ℕ → ℕ → Bool
-seated n t [] v = false
-seated n t (l ∷ ls) v = grouped n t l v || seated n t ls v
+abbrev pub has-place : ℕ → (ℕ → ℕ → Bool) → List ℕ → ℕ → Bool
+has-place n t [] v = false
+has-place n t (l ∷ ls) v = grouped n t l v || has-place n t ls v
 
 placed-here : (rs : List Row) (ls : List ℕ) (l v : ℕ) → SameGroup rs l v ⊎ Placed rs ls v → Placed rs (l ∷ ls) v
 placed-here rs ls l v (inl g) = (l, (inl refl, g))
@@ -69,14 +69,14 @@ module _ (n : ℕ) (rs : List Row) (own : all-fit n rs ≡ true) (few : n ≤ 25
     (λ g. let hl = path-inside n rs own (g .0) hv in and-from (ltb l n) (t l v && t v l) (lt-ltb l n hl) (decides-same l v hl hv .1 g)),
   )
 
-  pub decides-placed : (ls : List ℕ) (v : ℕ) → v < n → Decides (seated n t ls v) (Placed rs ls v)
+  pub decides-placed : (ls : List ℕ) (v : ℕ) → v < n → Decides (has-place n t ls v) (Placed rs ls v)
   decides-placed [] v hv = ((λ e. absurd (true≢false (sym e))), (λ p. absurd (p .1 .0)))
   decides-placed (l ∷ ls) v hv =
-      decides-like (grouped n t l v || seated n t ls v) (placed-here rs ls l v) (λ p. here-placed rs ls l v (p .0) (p .1 .0) (p .1 .1))
-      (decides-or (grouped n t l v) (seated n t ls v) (decides-grouped l v hv) (decides-placed ls v hv))
+      decides-like (grouped n t l v || has-place n t ls v) (placed-here rs ls l v) (λ p. here-placed rs ls l v (p .0) (p .1 .0) (p .1 .1))
+      (decides-or (grouped n t l v) (has-place n t ls v) (decides-grouped l v hv) (decides-placed ls v hv))
 
   pub placed-or-not : (ls : List ℕ) (v : ℕ) → v < n → Placed rs ls v ⊎ (Placed rs ls v → ⊥)
-  placed-or-not ls v hv = elim (cases-bool (seated n t ls v)) [
+  placed-or-not ls v hv = elim (cases-bool (has-place n t ls v)) [
     | inl e ↦ inl (decides-placed ls v hv .0 e)
-    | inr e ↦ inr (not-from-decides (seated n t ls v) (decides-placed ls v hv) e)
+    | inr e ↦ inr (not-from-decides (has-place n t ls v) (decides-placed ls v hv) e)
   ]

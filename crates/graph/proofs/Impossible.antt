@@ -18,8 +18,8 @@ impossible-pop all (a ∷ rs) r (inl t) = inl (inl t)
 impossible-pop all (a ∷ rs) r (inr s) = elim (impossible-pop all rs r s) [ inl h ↦ inl (inr h) | inr h ↦ inr h ]
 
 -- none up to i, nor the one there
-pub whole-more : (all rs : List Row) (i : ℕ) (r : Row) → Some r ≡ nth rs i → (SomeImpossible all (take i rs) → ⊥) → (Impossible all r → ⊥) → SomeImpossible all (take (i + 1) rs) → ⊥
-whole-more all rs i r e free whole s = elim (impossible-pop all (take i rs) r (subst (SomeImpossible all) (take-nth rs i r e) s)) [ inl h ↦ free h | inr h ↦ whole h ]
+pub possible-more : (all rs : List Row) (i : ℕ) (r : Row) → Some r ≡ nth rs i → (SomeImpossible all (take i rs) → ⊥) → (Impossible all r → ⊥) → SomeImpossible all (take (i + 1) rs) → ⊥
+possible-more all rs i r e free possible s = elim (impossible-pop all (take i rs) r (subst (SomeImpossible all) (take-nth rs i r e) s)) [ inl h ↦ free h | inr h ↦ possible h ]
 
 -- an impossible row of the list
 pub impossible-at : (all rs : List Row) (i : ℕ) (r : Row) → Some r ≡ nth rs i → Impossible all r → SomeImpossible all rs

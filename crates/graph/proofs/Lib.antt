@@ -7,6 +7,7 @@ pub mod FreeIsReady
 pub mod Groups
 pub mod Growth
 pub mod Impossible
+pub mod LeaderLists
 pub mod Most
 pub mod Moves
 pub mod Obeyed
@@ -20,7 +21,6 @@ pub mod Readiness
 pub mod Reading
 pub mod Reversal
 pub mod Rising
-pub mod Seats
 pub mod Sequences
 pub mod Spread
 pub mod Tables

@@ -15,7 +15,7 @@ use Rattle.graph.specs.Orders.{Separate, MostPlaces}
 use Rattle.graph.specs.Turns.{In, Placed}
 use Rattle.graph.proofs.Finite.{count, count-lt, count-bound}
 use Rattle.graph.proofs.Rising.{group-level}
-use Rattle.graph.proofs.Sequences.{Sits, placed-sits, sits-below, sits-together}
+use Rattle.graph.proofs.Sequences.{IndexOf, placed-index, index-below, index-together}
 
 -- no number stands twice in a list
 abbrev pub Apart : List ℕ → Type 0
@@ -46,26 +46,26 @@ counted k (j ∷ js) below apart = omega (
 pub at-most : (k : ℕ) (js : List ℕ) → ((j : ℕ) → In j js → j < k) → Apart js → length js ≤ k
 at-most k js below apart = omega (arith, counted k js below apart, count-bound (within js) k)
 
--- seats of the moments ms: as many, each of one of them, and no seat twice
-abbrev SeatsOf : List Row → List ℕ → List ℕ → Type 0
-SeatsOf rs ls ms = (js : List ℕ) × (length js ≡ length ms) × ((j : ℕ) → In j js → (m : ℕ) × (In m ms × Sits rs ls m j)) × Apart js
+-- the indices of the places of the moments ms: as many, each of one of them, and none twice
+abbrev IndicesOf : List Row → List ℕ → List ℕ → Type 0
+IndicesOf rs ls ms = (js : List ℕ) × (length js ≡ length ms) × ((j : ℕ) → In j js → (m : ℕ) × (In m ms × IndexOf rs ls m j)) × Apart js
 
 module _ (n : ℕ) (rs : List Row) (ls : List ℕ) (all : (m : ℕ) → m < n → Placed rs ls m) (p : Placement) (obeys : ObeysAll p rs) where
-  seats-more : (m : ℕ) (ms : List ℕ) → m < n → ((k : ℕ) → In k ms → p m ≡ p k → ⊥) → SeatsOf rs ls ms → SeatsOf rs ls (m ∷ ms)
-  seats-more m ms hm new (js, long, each, apart) =
-      let s = placed-sits rs ls m (all m hm) in
-      (s .0 ∷ js, omega (arith, long), seat-of s, ((λ h. let k = each (s .0) h in new (k .0) (k .1 .0) (group-level p rs obeys m (k .0) (sits-together rs ls m (k .0) (s .0) (s .1) (k .1 .1)))), apart))
+  indices-more : (m : ℕ) (ms : List ℕ) → m < n → ((k : ℕ) → In k ms → p m ≡ p k → ⊥) → IndicesOf rs ls ms → IndicesOf rs ls (m ∷ ms)
+  indices-more m ms hm new (js, long, each, apart) =
+      let s = placed-index rs ls m (all m hm) in
+      (s .0 ∷ js, omega (arith, long), index-of s, ((λ h. let k = each (s .0) h in new (k .0) (k .1 .0) (group-level p rs obeys m (k .0) (index-together rs ls m (k .0) (s .0) (s .1) (k .1 .1)))), apart))
     where
-      seat-of : (s : (j : ℕ) × Sits rs ls m j) (j : ℕ) → In j (s .0 ∷ js) → (k : ℕ) × (In k (m ∷ ms) × Sits rs ls k j)
-      seat-of s j (inl e) = (m, (inl refl, subst (λ v. Sits rs ls m v) (sym e) (s .1)))
-      seat-of s j (inr h) = let k = each j h in (k .0, (inr (k .1 .0), k .1 .1))
+      index-of : (s : (j : ℕ) × IndexOf rs ls m j) (j : ℕ) → In j (s .0 ∷ js) → (k : ℕ) × (In k (m ∷ ms) × IndexOf rs ls k j)
+      index-of s j (inl e) = (m, (inl refl, subst (λ v. IndexOf rs ls m v) (sym e) (s .1)))
+      index-of s j (inr h) = let k = each j h in (k .0, (inr (k .1 .0), k .1 .1))
 
-  seats : (ms : List ℕ) → ((m : ℕ) → In m ms → m < n) → Separate p ms → SeatsOf rs ls ms
-  seats [] below apart = ([], refl, (λ j h. absurd h), tt)
-  seats (m ∷ ms) below apart = seats-more m ms (below m (inl refl)) (apart .0) (seats ms (λ k h. below k (inr h)) (apart .1))
+  indices : (ms : List ℕ) → ((m : ℕ) → In m ms → m < n) → Separate p ms → IndicesOf rs ls ms
+  indices [] below apart = ([], refl, (λ j h. absurd h), tt)
+  indices (m ∷ ms) below apart = indices-more m ms (below m (inl refl)) (apart .0) (indices ms (λ k h. below k (inr h)) (apart .1))
 
 -- all places are enough for each placement that obeys the rows
 pub most-places : (n : ℕ) (rs : List Row) (ls : List ℕ) → ((m : ℕ) → m < n → Placed rs ls m) → MostPlaces n rs (length ls)
 most-places n rs ls all p obeys ms below apart =
-    let s = seats n rs ls all p obeys ms below apart in
-    omega (arith, s .1, at-most (length ls) (s .0) (λ j h. let k = s .2 j h in sits-below rs ls (k .0) j (k .1 .1)) (s .3))
+    let s = indices n rs ls all p obeys ms below apart in
+    omega (arith, s .1, at-most (length ls) (s .0) (λ j h. let k = s .2 j h in index-below rs ls (k .0) j (k .1 .1)) (s .3))

@@ -13,7 +13,7 @@ use Rattle.graph.specs.Reaching.{Tells}
 use Rattle.graph.specs.Steps.{Path, stay, onward, Step, SameGroup, Leads}
 use Rattle.graph.specs.Turns.{Placed, Ready, OneReady}
 use Rattle.graph.proofs.Finite.{count, count-le, count-lt, first, first-found, least, Least}
-use Rattle.graph.proofs.Groups.{group-self, group-turned, group-join, placed-group, seated, decides-same, decides-placed}
+use Rattle.graph.proofs.Groups.{group-self, group-turned, group-join, placed-group, has-place, decides-same, decides-placed}
 use Rattle.graph.proofs.Paths.{path-join, path-inside}
 
 -- a moment without a place that no other group without a place reaches
@@ -72,24 +72,24 @@ module _ (n : ℕ) (rs : List Row) (own : all-fit n rs ≡ true) (few : n ≤ 25
       (group-self rs l, λ k g. leads .1 k (group-join rs m l k (leads .0) g))
 
   -- of the moments without a place, one that the fewest moments reach is eligible
-  least-eligible : (ls : List ℕ) → Least (λ x. not (seated n t ls x)) (rank n t) n → (m : ℕ) × Eligible n rs ls m
+  least-eligible : (ls : List ℕ) → Least (λ x. not (has-place n t ls x)) (rank n t) n → (m : ℕ) × Eligible n rs ls m
   least-eligible ls (m, hm, un, low) = (
     m,
     (
       hm,
-      decides-not (seated n t ls m) (decides-placed n rs own few t tells ls m hm) .0 un,
+      decides-not (has-place n t ls m) (decides-placed n rs own few t tells ls m hm) .0 un,
       λ v p free.
           let hv = path-inside n rs own p hm in
           elim (cases-bool (t m v)) [
             | inl e ↦ told m v hm hv e
-            | inr e ↦ absurd (omega (arith, rank-lt v m hv hm p e, low v hv (decides-not (seated n t ls v) (decides-placed n rs own few t tells ls v hv) .1 free)))
+            | inr e ↦ absurd (omega (arith, rank-lt v m hv hm p e, low v hv (decides-not (has-place n t ls v) (decides-placed n rs own few t tells ls v hv) .1 free)))
           ],
     ),
   )
 
   pub one-eligible : (ls : List ℕ) (m : ℕ) → m < n → (Placed rs ls m → ⊥) → (l : ℕ) × Eligible n rs ls l
-  one-eligible ls m hm un = elim (least (λ x. not (seated n t ls x)) (rank n t) n) [
-    | inl none ↦ absurd (both-ways (not (seated n t ls m)) (none m hm) (decides-not (seated n t ls m) (decides-placed n rs own few t tells ls m hm) .1 un))
+  one-eligible ls m hm un = elim (least (λ x. not (has-place n t ls x)) (rank n t) n) [
+    | inl none ↦ absurd (both-ways (not (has-place n t ls m)) (none m hm) (decides-not (has-place n t ls m) (decides-placed n rs own few t tells ls m hm) .1 un))
     | inr low ↦ least-eligible ls low
   ]
 

@@ -34,18 +34,18 @@ pos-same a b h = omega (arith, ints)
 
 module _ (n : ℕ) (rs : List Row) (f : ℕ → ℕ) (spread : Spread n rs f) where
   row-obeyed : (r : Row) → r .0 < n → r .2 < n → ((x y : ℕ) → StepOf r x y → Step rs x y) → (Impossible rs r → ⊥) → Obeys (numbers f) r
-  row-obeyed r hx hy sub whole Before h = is-true (has (r .1) Before) (λ e.
+  row-obeyed r hx hy sub possible Before h = is-true (has (r .1) Before) (λ e.
       omega (arith, pos-under (f (r .0)) (f (r .2)) h, spread .up (r .2) (r .0) hy hx (onward (sub (r .2) (r .0) (inr (refl, refl, e))) stay)))
-  row-obeyed r hx hy sub whole Together h = is-true (has (r .1) Together) (λ e. whole (e, spread .one (r .0) (r .2) hx hy (pos-same (f (r .0)) (f (r .2)) h)))
-  row-obeyed r hx hy sub whole After h = is-true (has (r .1) After) (λ e.
+  row-obeyed r hx hy sub possible Together h = is-true (has (r .1) Together) (λ e. possible (e, spread .one (r .0) (r .2) hx hy (pos-same (f (r .0)) (f (r .2)) h)))
+  row-obeyed r hx hy sub possible After h = is-true (has (r .1) After) (λ e.
       omega (arith, pos-under (f (r .2)) (f (r .0)) h, spread .up (r .0) (r .2) hx hy (onward (sub (r .0) (r .2) (inl (refl, refl, e))) stay)))
 
   rows-obeyed : (qs : List Row) → all-fit n qs ≡ true → ((x y : ℕ) → Step qs x y → Step rs x y) → (SomeImpossible rs qs → ⊥) → ObeysAll (numbers f) qs
-  rows-obeyed [] fit sub whole = tt
-  rows-obeyed (r ∷ qs) fit sub whole =
+  rows-obeyed [] fit sub possible = tt
+  rows-obeyed (r ∷ qs) fit sub possible =
       let parts = and-parts (names n r && ranged r) (all-fit n qs) fit in
       let ends = row-ends n r (parts .0) in
-      (row-obeyed r (ends .0) (ends .1) (λ x y s. sub x y (inl s)) (λ t. whole (inl t)), rows-obeyed qs (parts .1) (λ x y s. sub x y (inr s)) (λ t. whole (inr t)))
+      (row-obeyed r (ends .0) (ends .1) (λ x y s. sub x y (inl s)) (λ t. possible (inl t)), rows-obeyed qs (parts .1) (λ x y s. sub x y (inr s)) (λ t. possible (inr t)))
 
   pub spread-obeys : all-fit n rs ≡ true → (SomeImpossible rs rs → ⊥) → ObeysAll (numbers f) rs
-  spread-obeys own whole = rows-obeyed rs own (λ x y s. s) whole
+  spread-obeys own possible = rows-obeyed rs own (λ x y s. s) possible

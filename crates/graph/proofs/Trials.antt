@@ -20,7 +20,7 @@ use Rattle.graph.specs.Orders.{Ordered, EntryOf, blank}
 use Rattle.graph.specs.Reaching.{Tells}
 use Rattle.graph.specs.Steps.{Leads}
 use Rattle.graph.specs.Turns.{Placed, Turns, turn}
-use Rattle.graph.proofs.Groups.{group-self, decides-same, decides-placed, seated}
+use Rattle.graph.proofs.Groups.{group-self, decides-same, decides-placed, has-place}
 use Rattle.graph.proofs.Paths.{path-inside}
 use Rattle.graph.proofs.Readiness.{Eligible, eligible-group, eligible-ready}
 use Rattle.graph.proofs.Sequences.{ready-eligible, sequence-closed, turns-sequence}
@@ -44,7 +44,7 @@ each-from P (suc n) h = and-from (P n) (each P n) (h n (omega arith)) (each-from
 
 -- whether m has no place, and no other group without a place reaches it
 abbrev pub eligible : ℕ → (ℕ → ℕ → Bool) → List ℕ → ℕ → Bool
-eligible n t ls m = not (seated n t ls m) && each (λ v. not (t v m) || (seated n t ls v || t m v)) n
+eligible n t ls m = not (has-place n t ls m) && each (λ v. not (t v m) || (has-place n t ls v || t m v)) n
 
 -- whether l is the lowest moment of the group of m
 abbrev pub leads : ℕ → (ℕ → ℕ → Bool) → ℕ → ℕ → Bool
@@ -66,19 +66,19 @@ module _ (n : ℕ) (rs : List Row) (own : all-fit n rs ≡ true) (few : n ≤ 25
   tells : Tells (table rs) rs
   tells = table-tells n rs few own
 
-  placed-told : (ls : List ℕ) (v : ℕ) → v < n → Decides (seated n (table rs) ls v) (Placed rs ls v)
+  placed-told : (ls : List ℕ) (v : ℕ) → v < n → Decides (has-place n (table rs) ls v) (Placed rs ls v)
   placed-told = decides-placed n rs own few (table rs) tells
 
   eligible-told : (ls : List ℕ) (m : ℕ) → m < n → eligible n (table rs) ls m ≡ true → Eligible n rs ls m
   eligible-told ls m hm e =
       let t = table rs in
-      let p = and-parts (not (seated n t ls m)) (each (λ v. not (t v m) || (seated n t ls v || t m v)) n) e in (
+      let p = and-parts (not (has-place n t ls m)) (each (λ v. not (t v m) || (has-place n t ls v || t m v)) n) e in (
         hm,
-        not-from-decides (seated n t ls m) (placed-told ls m hm) (not-true (seated n t ls m) (p .0)),
+        not-from-decides (has-place n t ls m) (placed-told ls m hm) (not-true (has-place n t ls m) (p .0)),
         λ v path un.
             let hv = path-inside n rs own path hm in
-            let told = from-implied (t v m) (seated n t ls v || t m v) (each-at (λ k. not (t k m) || (seated n t ls k || t m k)) n v (p .1) hv) (tells v m (omega arith) (omega arith) .1 path) in
-            elim (or-cases (seated n t ls v) (t m v) told) [
+            let told = from-implied (t v m) (has-place n t ls v || t m v) (each-at (λ k. not (t k m) || (has-place n t ls k || t m k)) n v (p .1) hv) (tells v m (omega arith) (omega arith) .1 path) in
+            elim (or-cases (has-place n t ls v) (t m v) told) [
               | inl h ↦ absurd (un (placed-told ls v hv .0 h))
               | inr h ↦ tells m v (omega arith) (omega arith) .0 h
             ],
@@ -88,11 +88,11 @@ module _ (n : ℕ) (rs : List Row) (own : all-fit n rs ≡ true) (few : n ≤ 25
   told-eligible ls m e =
       let t = table rs in
       let hm = e .0 in
-      let unseated = elim (cases-bool (seated n t ls m)) as (λ _. seated n t ls m ≡ false) [ inl h ↦ absurd (e .1 (placed-told ls m hm .0 h)) | inr h ↦ h ] in
-      and-from (not (seated n t ls m)) (each (λ v. not (t v m) || (seated n t ls v || t m v)) n) (not-from-false (seated n t ls m) unseated)
-      (each-from (λ v. not (t v m) || (seated n t ls v || t m v)) n (λ v hv. implied (t v m) (seated n t ls v || t m v) (λ h. elim (cases-bool (seated n t ls v)) [
-        | inl s ↦ or-left (seated n t ls v) (t m v) s
-        | inr s ↦ or-right (seated n t ls v) (t m v) (tells m v (omega arith) (omega arith) .1 (e .2 v (tells v m (omega arith) (omega arith) .0 h) (not-from-decides (seated n t ls v) (placed-told ls v hv) s)))
+      let unplaced = elim (cases-bool (has-place n t ls m)) as (λ _. has-place n t ls m ≡ false) [ inl h ↦ absurd (e .1 (placed-told ls m hm .0 h)) | inr h ↦ h ] in
+      and-from (not (has-place n t ls m)) (each (λ v. not (t v m) || (has-place n t ls v || t m v)) n) (not-from-false (has-place n t ls m) unplaced)
+      (each-from (λ v. not (t v m) || (has-place n t ls v || t m v)) n (λ v hv. implied (t v m) (has-place n t ls v || t m v) (λ h. elim (cases-bool (has-place n t ls v)) [
+        | inl s ↦ or-left (has-place n t ls v) (t m v) s
+        | inr s ↦ or-right (has-place n t ls v) (t m v) (tells m v (omega arith) (omega arith) .1 (e .2 v (tells v m (omega arith) (omega arith) .0 h) (not-from-decides (has-place n t ls v) (placed-told ls v hv) s)))
       ])))
 
   none-lower : (ls : List ℕ) (m : ℕ) → each (λ v. not (eligible n (table rs) ls v)) m ≡ true → (k : ℕ) → k < m → Eligible n rs ls k → ⊥
@@ -132,12 +132,12 @@ module _ (n : ℕ) (rs : List Row) (own : all-fit n rs ≡ true) (few : n ≤ 25
       )
 
   -- turns after which all have a place and the entries fit are the order
-  pub ordered-told : (ls : List ℕ) (es : List Entry) → Turns n rs ls → each (seated n (table rs) ls) n ≡ true
+  pub ordered-told : (ls : List ℕ) (es : List Entry) → Turns n rs ls → each (has-place n (table rs) ls) n ≡ true
       → each (λ m. entered n (table rs) ls m (getD es m blank)) n ≡ true → Ordered n rs es (length ls)
   ordered-told ls es turns all fit = (
     ls,
     (
-      (turns, λ m hm. placed-told ls m hm .0 (each-at (seated n (table rs) ls) n m all hm)),
+      (turns, λ m hm. placed-told ls m hm .0 (each-at (has-place n (table rs) ls) n m all hm)),
       refl,
       λ m hm. entered-told ls m (getD es m blank) hm (each-at (λ k. entered n (table rs) ls k (getD es k blank)) n m fit hm),
     ),

@@ -47,15 +47,15 @@ module _ (t : ℕ → ℕ → Bool) (all : List Row) (tells : Tells t all) (n : 
       ]
 
 -- without an impossible row some placement obeys all
-pub whole-agrees : (n : ℕ) (rs : List Row) → n ≤ 256 → all-fit n rs ≡ true → (SomeImpossible rs rs → ⊥) → Agree rs
-whole-agrees n rs few own whole =
+pub possible-agrees : (n : ℕ) (rs : List Row) → n ≤ 256 → all-fit n rs ≡ true → (SomeImpossible rs rs → ⊥) → Agree rs
+possible-agrees n rs few own possible =
     let f = ranking n (table rs) in
-    (numbers f, spread-obeys n rs f (ranking-spread n rs own few (table rs) (table-tells n rs few own)) own whole)
+    (numbers f, spread-obeys n rs f (ranking-spread n rs own few (table rs) (table-tells n rs few own)) own possible)
 
 pub clash-impossible : (n : ℕ) (rs : List Row) → n ≤ 256 → all-fit n rs ≡ true → Clash rs → SomeImpossible rs rs
 clash-impossible n rs few own clash = elim (find-impossible (table rs) rs (table-tells n rs few own) n few rs own) [
   | inl s ↦ s
-  | inr free ↦ absurd (clash (whole-agrees n rs few own free))
+  | inr free ↦ absurd (clash (possible-agrees n rs few own free))
 ]
 
 pub clash-theorem : (n : ℕ) (rs : List Row) → n ≤ 256 → all-fit n rs ≡ true → ClashTheorem rs

@@ -8,7 +8,7 @@ use Rattle.scene.proofs.Positions.{nth-there}
 use Rattle.graph.specs.Clashes.{SomeImpossible}
 use Rattle.graph.specs.Reaching.{reaches}
 use Rattle.graph.proofs.Reading.{row-small}
-use Rattle.graph.proofs.Impossible.{impossible-at, whole-more}
+use Rattle.graph.proofs.Impossible.{impossible-at, possible-more}
 use Rattle.graph.proofs.Verdict.{impossible-by, impossible-told}
 use Rattle.graph.proofs.consistency.has_impossible_row.Needs as need
 use Rattle.graph.proofs.consistency.has_impossible_row.Needs.{in-Some·else-is-impossible, in-rest}
@@ -33,7 +33,7 @@ loop-position-again g c =
           let r : Row = (w .in-Some .left, w .in-Some .set, w .in-Some .right) in
           let is = sym (w .in-Some .is) ∙ c .byte-row .ensures in
           let small = row-small (s .moments) (s .rows) i r (s .lawful) is in
-          whole-more (s .rows) (s .rows) i r is (c .loop-position .inv)
+          possible-more (s .rows) (s .rows) i r is (c .loop-position .inv)
           (not-from-decides (impossible-by t r) (impossible-told t (s .rows) r (c .pre) (small .0) (small .1)) (sym (w .is-impossible .ensures) ∙ w .if-is-impossible .left)))
       | in-rest w ↦ absurd (nth-there (s .rows) i (omega (arith, c .count-position-end .ensures)) (sym (w .in-rest .is) ∙ c .byte-row .ensures))
     ]
