@@ -1,10 +1,10 @@
 -- A set has exactly the members that it is the sum of.
-use Rattle.std.proofs.Common.{◌≡◌, ℕ, ◌+◌, ◌*◌, ◌/◌, ◌%◌, ◌<◌, ◌≤◌, Bool, true, false, cond, ◌||◌, eqb, List, [], ◌∷◌, ◌++◌, sym, refl, ap, ◌∙◌, arith}
+use Rattle.std.proofs.Common.{◌≡◌, ℕ, ◌+◌, ◌*◌, ◌/◌, ◌%◌, ◌≤◌, Bool, true, false, cond, ◌||◌, eqb, List, [], ◌∷◌, ◌++◌, refl, ap, ◌∙◌, arith}
 use Rattle.std.proofs.lemmas.Bool.{cond_both}
 use Rattle.std.specs.List.{AllByRecursion as All}
 use Rattle.algebra.specs.declared.titles.TitleRelation.{TitleRelation}
 use Rattle.algebra.specs.declared.titles.TitleRelation.TheVariants.{Precedes, PrecededBy, Meets, MetBy, Overlaps, OverlappedBy, During, Contains, Starts, StartedBy, Finishes, FinishedBy, Equals}
-use Rattle.algebra.specs.Members.{alike, occurs, weight, set_where, set_of}
+use Rattle.algebra.specs.Members.{alike, occurs, set_where, set_of}
 use Rattle.algebra.specs.Titles.{facts, thirteen, holds}
 
 abbrev bit : Bool → ℕ

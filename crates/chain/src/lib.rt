@@ -1,4 +1,6 @@
 // A source that stores no rows: each moment before the next.
+#![tactic(auto)]
+
 ghost use Rattle.std.specs.Prelude.{◌≡◌, ◌+◌, ◌-◌, ◌≤◌};
 ghost use Rattle.scene.specs.Checks.{Answers};
 ghost use Rattle.chain.specs.Links.{chained, chaining};

@@ -29,7 +29,7 @@ impl Closure {
 
     // What the steps of a source's rows reach.
     pub fn of<S: Source>(source: &S) -> Self
-        ensures { Tells (reaches result.rows) (scene source.now).rows }
+        ensures { Tells (reaches result.rows) (S.scene source.now).rows }
     {
         let mut rows = steps_of(source);
         close(&mut rows);
@@ -99,7 +99,7 @@ fn put_steps(rows: &mut [Moments; 256], left: u8, set: u8, right: u8)
 
 // The row at a position. Its moments are below 256, so that each is a byte.
 pub(crate) fn byte_row<S: Source>(source: &S, position: usize) -> Option<(u8, u8, u8)>
-    ensures { result ≡ slice_get (scene source.now).rows position }
+    ensures { result ≡ slice_get (S.scene source.now).rows position }
 {
     let (left, set, right) = source.row(position)?;
     Some((left as u8, set, right as u8))
@@ -107,7 +107,7 @@ pub(crate) fn byte_row<S: Source>(source: &S, position: usize) -> Option<(u8, u8
 
 // Each moment with those that one step leads to.
 fn steps_of<S: Source>(source: &S) -> [Moments; 256]
-    ensures { TellsSteps (reaches result) (scene source.now).rows }
+    ensures { TellsSteps (reaches result) (S.scene source.now).rows }
 {
     let mut rows = alone();
     for position in 0..source.count() {

@@ -19,8 +19,8 @@ fn is_impossible(closure: &Closure, left: u8, set: u8, right: u8) -> bool
 
 // Whether some row of the source is so.
 fn has_impossible_row<S: Source>(source: &S, closure: &Closure) -> bool
-    requires { Tells (reaches closure.now.rows) (scene source.now).rows }
-    ensures { Decides result (SomeImpossible (scene source.now).rows (scene source.now).rows) }
+    requires { Tells (reaches closure.now.rows) (S.scene source.now).rows }
+    ensures { Decides result (SomeImpossible (S.scene source.now).rows (S.scene source.now).rows) }
 {
     for position in 0..source.count() {
         if let Some((left, set, right)) = byte_row(source, position) {
@@ -34,7 +34,7 @@ fn has_impossible_row<S: Source>(source: &S, closure: &Closure) -> bool
 
 // What the steps of a source's rows reach; none where the rows clash.
 pub fn closure_without_clash<S: Source>(source: &S) -> Option<Closure>
-    ensures { MatchOption result (Clash (scene source.now).rows) (λ c. Agree (scene source.now).rows × Tells (reaches c.rows) (scene source.now).rows) }
+    ensures { MatchOption result (Clash (S.scene source.now).rows) (λ c. Agree (S.scene source.now).rows × Tells (reaches c.rows) (S.scene source.now).rows) }
 {
     let closure = Closure::of(source);
     if has_impossible_row(source, &closure) {
@@ -46,8 +46,8 @@ pub fn closure_without_clash<S: Source>(source: &S) -> Option<Closure>
 
 // Whether some placement obeys all rows of a source.
 pub fn consistent<S: Source>(source: &S) -> bool
-    ensures agrees { Decides result (Agree (scene source.now).rows) }
-    ensures theorem { ClashTheorem (scene source.now).rows }
+    ensures agrees { Decides result (Agree (S.scene source.now).rows) }
+    ensures theorem { ClashTheorem (S.scene source.now).rows }
 {
     closure_without_clash(source).is_some()
 }

@@ -1,3 +1,5 @@
+#![tactic(auto)]
+
 pub mod closure;
 pub mod consistency;
 mod moments;

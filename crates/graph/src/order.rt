@@ -93,9 +93,9 @@ fn place_groups<S: Source>(
     back: &Closure,
     entries: &mut [Entry],
 ) -> u16
-    requires { (Tells (reaches closure.now.rows) (scene source.now).rows) × ((Tells (reaches back.now.rows) (turned_scene (scene source.now)).rows) × ((scene source.now).moments ≤ length entries.old)) }
-    ensures order { Ordered (scene source.now).moments (scene source.now).rows entries.new result }
-    ensures rest { Beyond (scene source.now).moments entries.old entries.new }
+    requires { (Tells (reaches closure.now.rows) (S.scene source.now).rows) × ((Tells (reaches back.now.rows) (turned_scene (S.scene source.now)).rows) × ((S.scene source.now).moments ≤ length entries.old)) }
+    ensures order { Ordered (S.scene source.now).moments (S.scene source.now).rows entries.new result }
+    ensures rest { Beyond (S.scene source.now).moments entries.old entries.new }
 {
     let moments = source.moments();
     let mut placed = Moments::none();
@@ -109,9 +109,9 @@ fn place_groups<S: Source>(
 
 // The same, with who reaches a moment read from the source.
 fn place_all<S: Source>(source: &S, closure: &Closure, entries: &mut [Entry]) -> u16
-    requires { (Tells (reaches closure.now.rows) (scene source.now).rows) × ((scene source.now).moments ≤ length entries.old) }
-    ensures order { Ordered (scene source.now).moments (scene source.now).rows entries.new result }
-    ensures rest { Beyond (scene source.now).moments entries.old entries.new }
+    requires { (Tells (reaches closure.now.rows) (S.scene source.now).rows) × ((S.scene source.now).moments ≤ length entries.old) }
+    ensures order { Ordered (S.scene source.now).moments (S.scene source.now).rows entries.new result }
+    ensures rest { Beyond (S.scene source.now).moments entries.old entries.new }
 {
     let back = Closure::of(&Turned { below: source });
     place_groups(source, closure, &back, entries)
@@ -120,9 +120,9 @@ fn place_all<S: Source>(source: &S, closure: &Closure, entries: &mut [Entry]) ->
 // Writes the place and the leader of each moment, and answers the number of places. Refused where the list has
 // fewer entries than the source has moments, and then where the rows clash.
 pub fn write_order<S: Source>(source: &S, entries: &mut [Entry]) -> Result<u16, Refusal>
-    ensures answer { Answers (ordering (scene source.now) entries.old) (Owed (scene source.now) entries.new) result }
-    ensures list { MatchResult result (λ _. Beyond (scene source.now).moments entries.old entries.new) (λ _. entries.new ≡ entries.old) }
-    ensures one { OneOrder (scene source.now) }
+    ensures answer { Answers (ordering (S.scene source.now) entries.old) (Owed (S.scene source.now) entries.new) result }
+    ensures list { MatchResult result (λ _. Beyond (S.scene source.now).moments entries.old entries.new) (λ _. entries.new ≡ entries.old) }
+    ensures one { OneOrder (S.scene source.now) }
     ensures worked { Worked }
 {
     if entries.len() < source.moments() as usize {

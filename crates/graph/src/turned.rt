@@ -14,7 +14,7 @@ impl<S> Drop for Turned<'_, S> {
 }
 
 impl<'a, S: Source> Source for Turned<'a, S> {
-    ghost scene = { λ t. turned_scene (S.Source.scene t.below.now) };
+    ghost scene = { λ t. turned_scene (S.scene t.below.now) };
 
     fn moments(&self) -> u16 {
         self.below.moments()

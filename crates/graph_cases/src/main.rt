@@ -1,5 +1,7 @@
 // Scenes, each with what is answered of it: whether some placement obeys its rows, the number of places of its
 // order, and the place and leader of each moment.
+#![tactic(auto)]
+
 ghost use Rattle.std.specs.Prelude.{◌^◌, ◌<◌};
 
 use graph::consistency::consistent;

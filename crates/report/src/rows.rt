@@ -43,7 +43,7 @@ pub fn row_text(heap: Global, position: usize, row: Row) -> Result<String, Alloc
 
 // The moments and rows of a source, a line each.
 pub fn listing<S: Source>(heap: Global, source: &S) -> Result<String, AllocError>
-    ensures { IfOk result (λ s. string_bytes s ≡ lines (S.Source.scene source.now).moments (S.Source.scene source.now).rows) }
+    ensures { IfOk result (λ s. string_bytes s ≡ lines (S.scene source.now).moments (S.scene source.now).rows) }
 {
     let moments = source.moments();
     let mut text = format!(in heap; "moments\t{moments}\n")?;

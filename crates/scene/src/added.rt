@@ -59,7 +59,7 @@ fn check_count(below: usize, more: usize) -> Result<(), Refusal>
 impl<'a, 'm, S: Source> Added<'a, 'm, S> {
     // Each row is checked in turn, then how many there are.
     pub fn new(below: &'a S, more: &'m [Row]) -> Result<Added<'a, 'm, S>, Refusal>
-        ensures { Answers (adding (S.Source.scene below.now) more.now) (λ a. Piled (S.Source.scene below.now).moments (S.Source.scene below.now).rows more.now (added (S.Source.scene a.below.now) a.moments a.more.now a.few a.own)) result }
+        ensures { Answers (adding (S.scene below.now) more.now) (λ a. Piled (S.scene below.now).moments (S.scene below.now).rows more.now (added (S.scene a.below.now) a.moments a.more.now a.few a.own)) result }
     {
         let moments = below.moments();
         for row in more {
@@ -75,7 +75,7 @@ impl<'a, 'm, S: Source> Added<'a, 'm, S> {
 }
 
 impl<'a, 'm, S: Source> Source for Added<'a, 'm, S> {
-    ghost scene = { λ a. added (S.Source.scene a.below.now) a.moments a.more.now a.few a.own };
+    ghost scene = { λ a. added (S.scene a.below.now) a.moments a.more.now a.few a.own };
 
     fn moments(&self) -> u16 {
         self.below.moments().max(self.moments)

@@ -24,7 +24,7 @@ impl<S, T> Drop for Joined<'_, '_, S, T> {
 impl<'a, 'b, S: Source, T: Source> Joined<'a, 'b, S, T> {
     // Refused where the two have more rows together than a source may have.
     pub fn new(first: &'a S, second: &'b T) -> Result<Joined<'a, 'b, S, T>, Refusal>
-        ensures { Answers (joining (S.Source.scene first.now) (T.Source.scene second.now)) (λ j. Piled (max (S.Source.scene first.now).moments (T.Source.scene second.now).moments) (S.Source.scene first.now).rows (T.Source.scene second.now).rows (joined (S.Source.scene j.first.now) (T.Source.scene j.second.now))) result }
+        ensures { Answers (joining (S.scene first.now) (T.scene second.now)) (λ j. Piled (max (S.scene first.now).moments (T.scene second.now).moments) (S.scene first.now).rows (T.scene second.now).rows (joined (S.scene j.first.now) (T.scene j.second.now))) result }
     {
         check_pile(first.count(), second.count())?;
         Ok(Joined { first, second })
@@ -32,7 +32,7 @@ impl<'a, 'b, S: Source, T: Source> Joined<'a, 'b, S, T> {
 }
 
 impl<'a, 'b, S: Source, T: Source> Source for Joined<'a, 'b, S, T> {
-    ghost scene = { λ j. joined (S.Source.scene j.first.now) (T.Source.scene j.second.now) };
+    ghost scene = { λ j. joined (S.scene j.first.now) (T.scene j.second.now) };
 
     fn moments(&self) -> u16 {
         self.first.moments().max(self.second.moments())

@@ -106,7 +106,7 @@ impl<S> LeftOut<'_, '_, S> {
 impl<'a, 'm, S: Source> LeftOut<'a, 'm, S> {
     // Marks may come in any sequence and more than once; one past the end leaves nothing out.
     pub fn new(below: &'a S, marks: &'m [u16]) -> Result<LeftOut<'a, 'm, S>, Refusal>
-        ensures { Answers (leaving_out marks.now) (λ l. LeavesOut (S.Source.scene below.now) marks.now (left_out (S.Source.scene l.below.now) l.marks.now)) result }
+        ensures { Answers (leaving_out marks.now) (λ l. LeavesOut (S.scene below.now) marks.now (left_out (S.scene l.below.now) l.marks.now)) result }
     {
         let table = mark_table(marks)?;
         let Remaining { positions, ranks } = find_remaining(&table);
@@ -120,7 +120,7 @@ impl<'a, 'm, S: Source> LeftOut<'a, 'm, S> {
 }
 
 impl<'a, 'm, S: Source> Source for LeftOut<'a, 'm, S> {
-    ghost scene = { λ l. left_out (S.Source.scene l.below.now) l.marks.now };
+    ghost scene = { λ l. left_out (S.scene l.below.now) l.marks.now };
 
     fn moments(&self) -> u16 {
         self.below.moments()

@@ -1,4 +1,6 @@
 // Rows, scenes, sources and the layers over them; the refusals of every call.
+#![tactic(auto)]
+
 pub mod added;
 pub mod joined;
 pub mod left_out;

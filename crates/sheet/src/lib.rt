@@ -1,4 +1,6 @@
 // Translators' sheets: the reader, and the sheet as a source.
+#![tactic(auto)]
+
 pub mod faults;
 mod items;
 mod lines;

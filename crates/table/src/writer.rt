@@ -11,7 +11,7 @@ use scene::sources::{MOST_WORKING_ROWS, Row, Source};
 
 // The number of rows to write.
 fn rows_written<S: Source>(source: &S) -> Result<usize, Refusal>
-    ensures { Answers (of_rows (S.Source.scene source.now).rows) (λ n. n ≡ length (S.Source.scene source.now).rows) result }
+    ensures { Answers (of_rows (S.scene source.now).rows) (λ n. n ≡ length (S.scene source.now).rows) result }
 {
     let count = source.count();
     if count > MOST_WORKING_ROWS {
@@ -43,9 +43,9 @@ fn row_bytes(row: Row) -> [u8; 4]
 
 // Writes any source as a table at the start of the list, and answers how many bytes it took.
 pub fn write_table<S: Source>(source: &S, out: &mut [u8]) -> Result<usize, Refusal>
-    ensures size { Answers (writing (S.Source.scene source.now).rows (length out.old)) (λ n. (n ≡ 3 + 4 * length (S.Source.scene source.now).rows) × (n ≡ length (written (S.Source.scene source.now).moments (S.Source.scene source.now).rows))) result }
-    ensures bytes { MatchResult result (λ _. out.new ≡ over (written (S.Source.scene source.now).moments (S.Source.scene source.now).rows) out.old) (λ _. out.new ≡ out.old) }
-    ensures back { IfOk result (λ n. Reads (take n out.new) (found (S.Source.scene source.now).moments (S.Source.scene source.now).rows)) }
+    ensures size { Answers (writing (S.scene source.now).rows (length out.old)) (λ n. (n ≡ 3 + 4 * length (S.scene source.now).rows) × (n ≡ length (written (S.scene source.now).moments (S.scene source.now).rows))) result }
+    ensures bytes { MatchResult result (λ _. out.new ≡ over (written (S.scene source.now).moments (S.scene source.now).rows) out.old) (λ _. out.new ≡ out.old) }
+    ensures back { IfOk result (λ n. Reads (take n out.new) (found (S.scene source.now).moments (S.scene source.now).rows)) }
 {
     let count = rows_written(source)?;
     let size = size_within(count, out.len())?;

@@ -1,4 +1,6 @@
 // House tables at the borders of what is accepted, each with the answer of the reader.
+#![tactic(auto)]
+
 use scene::sources::Source;
 use std::io;
 use table::reader::{ReadError, read_table};

@@ -1,4 +1,6 @@
 // Reads a house table from standard input, and prints its moments, its rows in words, and the table written back.
+#![tactic(auto)]
+
 use report::tables::table_text;
 use std::io;
 use std::io::Read;

@@ -9,13 +9,13 @@ pub loop-t-init : goal.loop-t-init
 unfolding closed
 loop-t-init c = ap (every (settled c.args.set)) c.all-t-items.ensures.list
 
-pub returns-then-not-is-settled : goal.returns-then-not-is-settled
-returns-then-not-is-settled c =
-    sym (and_right _ _ (sym c.loop-t.invariant ∙ every_here (settled c.args.set) c.all-t-items.result c.loop-t.t-index _ (search rules) (sym c.if-not-is-settled.ensures)))
+pub returns-then-not-is_settled : goal.returns-then-not-is_settled
+returns-then-not-is_settled c =
+    sym (and_right _ _ (sym c.loop-t.invariant ∙ every_here (settled c.args.set) c.all-t-items.result c.loop-t.t-index _ (search rules) (sym c.if-not-is_settled.ensures)))
 
 pub loop-t-preserved : goal.loop-t-preserved
 loop-t-preserved c =
-    every_more (settled c.args.set) c.all-t-items.result c.loop-t.t-index _ (search rules) (sym c.if-not-is-settled.ensures) ∙ c.loop-t.invariant
+    every_more (settled c.args.set) c.all-t-items.result c.loop-t.t-index _ (search rules) (sym c.if-not-is_settled.ensures) ∙ c.loop-t.invariant
 
 pub returns : goal.returns
 returns c =

@@ -7,4 +7,4 @@ unfolding shown closed
 worked = refl
 
 pub returns : goal.returns
-returns c = record { value = c.sets-where.ensures; worked = worked }
+returns c = record { value = c.sets_where.ensures; worked = worked }

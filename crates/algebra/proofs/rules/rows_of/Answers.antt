@@ -3,7 +3,7 @@ use Rattle.algebra.specs.Rules.{pointisable, ruled}
 use Rattle.algebra.proofs.Sets.{exact_from}
 use Rattle.algebra.proofs.rules.rows_of.Goals as goal
 
-pub returns-then-is-pointisable : goal.returns-then-is-pointisable
-returns-then-is-pointisable c =
+pub returns-then-is_pointisable : goal.returns-then-is_pointisable
+returns-then-is_pointisable c =
     let made : Some c.rows_with.result ≡ cond (pointisable c.args.set) (Some (ruled c.args.x c.args.set c.args.y)) None = search rules in
     record { value = made; exact = exact_from _ _ _ _ made }

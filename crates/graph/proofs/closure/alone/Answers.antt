@@ -14,12 +14,12 @@ pub loop-x-preserved : goal.loop-x-preserved
 loop-x-preserved c =
     let rows = c.loop-x.rows in
     let i = c.loop-x.x in
-    let row = c.put-if.new.self in
+    let row = c.put_if.new.self in
     let long : i < length rows = omega arith in (
       simp length-set c.loop-x.invariant.0,
       (λ x y l hy. elim (cases_eq x i) [
         | inl e ↦ subst (λ v. reaches (set rows i row) v y ≡ eqb v y) (sym e)
-            (ap (λ r. holds r y) (get_or-set_same rows i row none long) ∙ c.put-if.ensures y hy ∙ rw (c.loop-x.invariant.2 i y (omega arith) (omega arith) hy) (same_test y i i y sym sym))
+            (ap (λ r. holds r y) (get_or-set_same rows i row none long) ∙ c.put_if.ensures y hy ∙ rw (c.loop-x.invariant.2 i y (omega arith) (omega arith) hy) (same_test y i i y sym sym))
         | inr ne ↦ ap (λ r. holds r y) (get_or-set_other rows i x row none ne) ∙ c.loop-x.invariant.1 x y (omega arith) hy
       ]),
       (λ x y l hx hy. ap (λ r. holds r y) (get_or-set_other rows i x row none (omega arith)) ∙ c.loop-x.invariant.2 x y (omega arith) hx hy),

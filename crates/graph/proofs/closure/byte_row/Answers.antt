@@ -3,22 +3,22 @@ use Rattle.algebra.specs.Placements.{Row}
 use Rattle.graph.proofs.Reading.{row_small}
 use Rattle.graph.proofs.closure.byte_row.Goals as goal
 
-pub overflow-cast-result : goal.overflow-cast-result
-overflow-cast-result g c =
+pub overflow_cast-result : goal.overflow_cast-result
+overflow_cast-result g c =
     let s = g.S.Source.scene c.args.source.now in
-    let r : Row = (c.in-ok-left.left, c.in-ok-left.set, c.in-ok-left.right) in
-    let small = row_small s.moments s.rows c.args.position r s.lawful (sym c.in-ok-left.was ∙ c.row.ensures) in
+    let r : Row = (c.in_ok-left.left, c.in_ok-left.set, c.in_ok-left.right) in
+    let small = row_small s.moments s.rows c.args.position r s.lawful (sym c.in_ok-left.was ∙ c.row.ensures) in
     omega (arith, small.0)
 
-pub overflow-cast-result-2 : goal.overflow-cast-result-2
-overflow-cast-result-2 g c =
+pub overflow_cast-result-2 : goal.overflow_cast-result-2
+overflow_cast-result-2 g c =
     let s = g.S.Source.scene c.args.source.now in
-    let r : Row = (c.in-ok-left.left, c.in-ok-left.set, c.in-ok-left.right) in
-    let small = row_small s.moments s.rows c.args.position r s.lawful (sym c.in-ok-left.was ∙ c.row.ensures) in
+    let r : Row = (c.in_ok-left.left, c.in_ok-left.set, c.in_ok-left.right) in
+    let small = row_small s.moments s.rows c.args.position r s.lawful (sym c.in_ok-left.was ∙ c.row.ensures) in
     omega (arith, small.1)
 
-pub returns-in-err-left : goal.returns-in-err-left
-returns-in-err-left g c = c.from-residual.ensures ∙ sym c.in-err-left.was ∙ c.row.ensures
+pub returns-in_err-left : goal.returns-in_err-left
+returns-in_err-left g c = c.from_residual.ensures ∙ sym c.in_err-left.was ∙ c.row.ensures
 
 pub returns : goal.returns
-returns g c = sym c.in-ok-left.was ∙ c.row.ensures
+returns g c = sym c.in_ok-left.was ∙ c.row.ensures

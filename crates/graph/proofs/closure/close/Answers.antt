@@ -10,7 +10,7 @@ loop-pair-init c = λ rs tells. within_none (reaches c.args.rows.now) rs tells
 pub loop-pair-preserved : goal.loop-pair-preserved
 loop-pair-preserved c = λ rs tells.
     let e : 2 * c.loop-pair.pair + 2 ≡ 2 * (c.loop-pair.pair + 1) = omega arith in
-    subst (λ k. TellsWithin (reaches c.pass-pair.new.rows) rs k) e (c.pass-pair.ensures rs (c.loop-pair.invariant rs tells))
+    subst (λ k. TellsWithin (reaches c.pass_pair.new.rows) rs k) e (c.pass_pair.ensures rs (c.loop-pair.invariant rs tells))
 
 pub returns : goal.returns
 returns c = λ rs inside tells.

@@ -12,7 +12,7 @@ loop-x-preserved c =
     let unions = c.none.result ∷ c.follow-2.new.self ∷ c.follow.new.self ∷ c.join.result ∷ [] in (
       simp length-set c.loop-x.invariant.0,
       change_more old c.loop-x.rows (paired (reaches old) unions c.args.first) x c.join-in-loop-x.result c.loop-x.invariant.1 (omega arith)
-          (λ y hy. c.join-in-loop-x.ensures y hy ∙ rw (c.pair-from-chosen.ensures, c.loop-x.invariant.1.1 x (omega arith)) refl),
+          (λ y hy. c.join-in-loop-x.ensures y hy ∙ rw (c.pair_from-chosen.ensures, c.loop-x.invariant.1.1 x (omega arith)) refl),
     )
 
 pub returns : goal.returns

@@ -7,9 +7,9 @@ returns c = λ x y hx hy.
     let rows = c.args.rows.now in
     let left = c.args.left in
     let right = c.args.right in
-    let once = set rows left c.put-if.new.self in
+    let once = set rows left c.put_if.new.self in
     let long : length rows ≡ 256 = search rules in
-    let still : length once ≡ 256 = length-set rows left c.put-if.new.self ∙ long in
-    let first = put_row rows (not c.is-in.result) left right c.put-if.new.self (omega arith) c.put-if.ensures x y hy in
-    let second = put_row once (not c.is-in-2.result) right left c.put-if-2.new.self (omega arith) c.put-if-2.ensures x y hy in
-    second ∙ rw (first, c.is-in.ensures, c.is-in-2.ensures) refl
+    let still : length once ≡ 256 = length-set rows left c.put_if.new.self ∙ long in
+    let first = put_row rows (not c.is_in.result) left right c.put_if.new.self (omega arith) c.put_if.ensures x y hy in
+    let second = put_row once (not c.is_in-2.result) right left c.put_if-2.new.self (omega arith) c.put_if-2.ensures x y hy in
+    second ∙ rw (first, c.is_in.ensures, c.is_in-2.ensures) refl

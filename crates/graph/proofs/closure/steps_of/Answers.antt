@@ -5,7 +5,7 @@ use Rattle.scene.proofs.Positions.{nth_there}
 use Rattle.graph.specs.Reaching.{TellsSteps, reaches}
 use Rattle.graph.proofs.Reading.{steps_more, steps_none}
 use Rattle.graph.proofs.closure.steps_of.Goals as goal
-use Rattle.graph.proofs.closure.steps_of.Goals.{in-Some, in-default}
+use Rattle.graph.proofs.closure.steps_of.Goals.{in-Some, in_default}
 
 pub loop-position-init : goal.loop-position-init
 loop-position-init g c = steps_none (reaches c.alone-rows.result) c.alone-rows.ensures
@@ -14,12 +14,12 @@ pub loop-position-preserved : goal.loop-position-preserved
 loop-position-preserved g c =
     let rs = (g.S.Source.scene c.args.source.now).rows in
     let i = c.loop-position.position in
-    elim c.match-byte-row.branch [
+    elim c.match-byte_row.branch [
       | in-Some w ↦ (
           let r : Row = (w.in-Some.left, w.in-Some.set, w.in-Some.right) in
           subst (λ v. TellsSteps (reaches v) (take (i + 1) rs)) (sym w.rows-is)
-          (steps_more rs i r (reaches c.loop-position.rows) (reaches w.put-steps.new.rows) (sym w.in-Some.is ∙ c.byte-row.ensures) w.put-steps.ensures c.loop-position.invariant))
-      | in-default w ↦ absurd (nth_there rs i (omega (arith, c.count-position-end.ensures)) (sym w.in-default.is ∙ c.byte-row.ensures))
+          (steps_more rs i r (reaches c.loop-position.rows) (reaches w.put_steps.new.rows) (sym w.in-Some.is ∙ c.byte_row.ensures) w.put_steps.ensures c.loop-position.invariant))
+      | in_default w ↦ absurd (nth_there rs i (omega (arith, c.count-position-end.ensures)) (sym w.in_default.is ∙ c.byte_row.ensures))
     ]
 
 pub returns : goal.returns

@@ -15,6 +15,6 @@ pub returns : goal.returns
 returns g c =
     let s = g.S.Source.scene c.args.source.now in
     record {
-      agrees = Decides-at c.is-some.result (is_some c.closure-without-clash.result) c.is-some.ensures (there s.rows _ c.closure-without-clash.result c.closure-without-clash.ensures);
+      agrees = Decides-at c.is_some.result (is_some c.closure_without_clash.result) c.is_some.ensures (there s.rows _ c.closure_without_clash.result c.closure_without_clash.ensures);
       theorem = clash_theorem s.moments s.rows s.lawful.few s.lawful.own;
     }

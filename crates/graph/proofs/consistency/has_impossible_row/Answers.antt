@@ -10,31 +10,31 @@ use Rattle.graph.proofs.Reading.{row_small}
 use Rattle.graph.proofs.Impossible.{impossible_at, possible_more}
 use Rattle.graph.proofs.Verdict.{impossible_by, impossible_told}
 use Rattle.graph.proofs.consistency.has_impossible_row.Goals as goal
-use Rattle.graph.proofs.consistency.has_impossible_row.Goals.{in-Some+else-is-impossible, in-default}
+use Rattle.graph.proofs.consistency.has_impossible_row.Goals.{in-Some+else-is_impossible, in_default}
 
-pub returns-then-is-impossible : goal.returns-then-is-impossible
-returns-then-is-impossible g c =
+pub returns-then-is_impossible : goal.returns-then-is_impossible
+returns-then-is_impossible g c =
     let s = g.S.Source.scene c.args.source.now in
     let t = reaches c.args.closure.now.rows in
     let r : Row = (c.in-Some.left, c.in-Some.set, c.in-Some.right) in
-    let is = sym c.in-Some.is ∙ c.byte-row.ensures in
+    let is = sym c.in-Some.is ∙ c.byte_row.ensures in
     let small = row_small s.moments s.rows c.loop-position.position r s.lawful is in
     let told = impossible_told t s.rows r c.requires small.0 small.1 in
-    (λ _. impossible_at s.rows s.rows c.loop-position.position r is (told.0 (sym c.if-is-impossible.ensures)), λ _. refl)
+    (λ _. impossible_at s.rows s.rows c.loop-position.position r is (told.0 (sym c.if-is_impossible.ensures)), λ _. refl)
 
 pub loop-position-preserved : goal.loop-position-preserved
 loop-position-preserved g c =
     let s = g.S.Source.scene c.args.source.now in
     let t = reaches c.args.closure.now.rows in
     let i = c.loop-position.position in
-    elim c.match-byte-row.branch [
-      | in-Some+else-is-impossible w ↦ (
+    elim c.match-byte_row.branch [
+      | in-Some+else-is_impossible w ↦ (
           let r : Row = (w.in-Some.left, w.in-Some.set, w.in-Some.right) in
-          let is = sym w.in-Some.is ∙ c.byte-row.ensures in
+          let is = sym w.in-Some.is ∙ c.byte_row.ensures in
           let small = row_small s.moments s.rows i r s.lawful is in
           possible_more s.rows s.rows i r is c.loop-position.invariant
-          (not_from_Decides (impossible_by t r) (impossible_told t s.rows r c.requires small.0 small.1) (sym w.is-impossible.ensures ∙ w.if-is-impossible.false)))
-      | in-default w ↦ absurd (nth_there s.rows i (omega (arith, c.count-position-end.ensures)) (sym w.in-default.is ∙ c.byte-row.ensures))
+          (not_from_Decides (impossible_by t r) (impossible_told t s.rows r c.requires small.0 small.1) (sym w.is_impossible.ensures ∙ w.if-is_impossible.false)))
+      | in_default w ↦ absurd (nth_there s.rows i (omega (arith, c.count-position-end.ensures)) (sym w.in_default.is ∙ c.byte_row.ensures))
     ]
 
 pub returns : goal.returns

@@ -8,7 +8,7 @@ use Rattle.graph.proofs.order.place_groups.Goals as goal
 
 pub loop-leader-init : goal.loop-leader-init
 loop-leader-init g c =
-    state_start c.moments-moments.result (g.S.Source.scene c.args.source.now).rows c.args.entries.now (holds c.none_placed.result) c.none_placed.ensures
+    state_start c.moments-moments.result (g.S.Source.scene c.args.source.now).rows c.args.entries.now (holds c.none-placed.result) c.none-placed.ensures
 
 pub loop-leader-smaller : goal.loop-leader-smaller
 loop-leader-smaller g c =
@@ -19,7 +19,7 @@ loop-leader-smaller g c =
     state_fewer n s.rows lawful.own lawful.few (reaches c.args.closure.now.rows) c.requires.0 (reaches c.args.back.now.rows) c.requires.1.0
     c.args.entries.now c.loop-leader.entries (holds c.loop-leader.placed) c.loop-leader.places c.loop-leader.invariant
     c.in-Some.leader e.0 e.1 e.2
-    c.place-group-placed.new.entries (holds c.place-group-placed.result) c.place-group-placed.ensures.written c.place-group-placed.ensures.marks
+    c.place_group-placed.new.entries (holds c.place_group-placed.result) c.place_group-placed.ensures.written c.place_group-placed.ensures.marks
 
 pub loop-leader-preserved : goal.loop-leader-preserved
 loop-leader-preserved g c =
@@ -30,7 +30,7 @@ loop-leader-preserved g c =
     state_turn n s.rows lawful.own lawful.few (reaches c.args.closure.now.rows) c.requires.0 (reaches c.args.back.now.rows) c.requires.1.0
     c.args.entries.now c.loop-leader.entries (holds c.loop-leader.placed) c.loop-leader.places c.loop-leader.invariant
     c.in-Some.leader e.0 e.1 e.2
-    c.place-group-placed.new.entries (holds c.place-group-placed.result) c.place-group-placed.ensures.written c.place-group-placed.ensures.marks
+    c.place_group-placed.new.entries (holds c.place_group-placed.result) c.place_group-placed.ensures.written c.place_group-placed.ensures.marks
 
 pub returns : goal.returns
 returns g c =
@@ -40,6 +40,6 @@ returns g c =
     record {
       order = subst (λ v. Ordered v s.rows c.loop-leader.entries c.loop-leader.places) c.moments-moments.ensures
           (state_done n s.rows lawful.own lawful.few (reaches c.args.closure.now.rows) c.requires.0 (reaches c.args.back.now.rows) c.requires.1.0
-          c.args.entries.now c.loop-leader.entries (holds c.loop-leader.placed) c.loop-leader.places c.loop-leader.invariant c.in-default.ensures);
+          c.args.entries.now c.loop-leader.entries (holds c.loop-leader.placed) c.loop-leader.places c.loop-leader.invariant c.in_default.ensures);
       rest = subst (λ v. Beyond v c.args.entries.now c.loop-leader.entries) c.moments-moments.ensures c.loop-leader.invariant.rest;
     }

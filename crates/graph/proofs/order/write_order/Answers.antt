@@ -12,9 +12,9 @@ returns-then-entries-moments g c = record {
   worked = worked;
 }
 
-pub returns-in-default : goal.returns-in-default
-returns-in-default g c = record {
-  answer = inr ((λ h. omega (arith, h, c.if-entries-moments.false, c.moments.ensures)), inl (refl, c.in-default.ensures));
+pub returns-in_default : goal.returns-in_default
+returns-in_default g c = record {
+  answer = inr ((λ h. omega (arith, h, c.if-entries-moments.false, c.moments.ensures)), inl (refl, c.in_default.ensures));
   list = refl;
   one = one_order (g.S.Source.scene c.args.source.now);
   worked = worked;
@@ -24,15 +24,15 @@ pub returns : goal.returns
 returns g c =
     let s = g.S.Source.scene c.args.source.now in
     let e = c.in-Some.ensures in
-    let es = c.place-all.new.entries in
-    let k = c.place-all.result in
-    let o = c.place-all.ensures.order in
+    let es = c.place_all.new.entries in
+    let k = c.place_all.result in
+    let o = c.place_all.ensures.order in
     record {
       answer = (
         ((λ h. omega (arith, h, c.if-entries-moments.false, c.moments.ensures)), ((λ h. h e.0), tt)),
         ordered_owed s (reaches c.in-Some.closure.rows) e.1 es k o e.0,
       );
-      list = c.place-all.ensures.rest;
+      list = c.place_all.ensures.rest;
       one = one_order s;
       worked = worked;
     }

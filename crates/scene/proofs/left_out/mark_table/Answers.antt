@@ -18,11 +18,11 @@ above : (m : ℕ) (e : Refusal) → First ((NoSuchRow, 4095 < m) ∷ []) e → (
 above m e (inl h) = (h.0, h.1)
 above m e (inr h) = absurd h.1
 
-pub returns-in-err-check-mark : goal.returns-in-err-check-mark
-returns-in-err-check-mark c =
-    let p = err_from_is_err_and c.from-residual.result c.from-residual.ensures.1 in
+pub returns-in_err-check_mark : goal.returns-in_err-check_mark
+returns-in_err-check_mark c =
+    let p = err_from_is_err_and c.from_residual.result c.from_residual.ensures.1 in
     let i = c.loop-mark.mark-index in
-    let h = above (get_or c.args.marks.now i 0) c.in-err-check-mark.field-0.0 c.in-err-check-mark.ensures in
+    let h = above (get_or c.args.marks.now i 0) c.in_err-check_mark.field-0.0 c.in_err-check_mark.ensures in
     rw (p.1, p.2) (inl (h.0, not_low c.args.marks.now i (omega arith) h.1))
 
 -- one more mark is set
@@ -37,7 +37,7 @@ loop-mark-preserved c =
     let ms = c.args.marks.now in
     let i = c.loop-mark.mark-index in
     let m = get_or ms i 0 in
-    let small = at_most 4095 m c.in-ok-check-mark.ensures.0.0 in (
+    let small = at_most 4095 m c.in_ok-check_mark.ensures.0.0 in (
       length-set c.loop-mark.table m true ∙ c.loop-mark.invariant.0,
       ap low (take_more ms i 0 (omega arith)) ∙ low_push (take i ms) m c.loop-mark.invariant.1 (omega arith),
       λ k. marks_more c.loop-mark.table ms i k (omega arith) (omega arith) (c.loop-mark.invariant.2 k),

@@ -27,17 +27,17 @@ module _ (place : ℕ) (cs : List (Check Refusal)) (Good : Statement → Type 0)
   told_good (Ok t) s a is = let e : t ≡ s = cc in (a.0, subst Good e a.1)
   told_good (Err x) s a is = let z : ◌≡◌ {A = ℕ} 0 1 = cc in absurd (omega arith)
 
-pub returns-in-err-statement : goal.returns-in-err-statement
-returns-in-err-statement c =
-    let p = err_from_is_err_and c.from-residual.result c.from-residual.ensures.1 in
+pub returns-in_err-statement : goal.returns-in_err-statement
+returns-in_err-statement c =
+    let p = err_from_is_err_and c.from_residual.result c.from_residual.ensures.1 in
     let bytes = c.args.bytes.now in
     let l = c.loop-command in
     let k = c.in-Some.command in
     let known : ℕ → Bool = λ t. get_or l.known t false in
     let Good : Statement → Type 0 = λ s. rows_in s ≡ stated k in
     let b = subst (λ bs. Begins bs k) (take_rest bytes l.place) c.in-Some.ensures in
-    let a = subst (λ n. Answers (of_command (n + 1) known k) Good c.rows-stated.result) c.from-moments.ensures c.rows-stated.ensures in
-    let t = told_refused l.place (of_command (c.args.last + 1) known k) Good c.rows-stated.result c.in-err-statement.field-0.0 a c.in-err-statement.ensures in
+    let a = subst (λ n. Answers (of_command (n + 1) known k) Good c.rows_stated.result) c.from-moments.ensures c.rows_stated.ensures in
+    let t = told_refused l.place (of_command (c.args.last + 1) known k) Good c.rows_stated.result c.in_err-statement.field-0.0 a c.in_err-statement.ensures in
     rw p.1 (subst (λ e. Commanded bytes c.args.last (Err e)) (t.1 ∙ sym p.2)
     (refused_here bytes c.args.last l.place l.known (vec_items l.rows) l.invariant.0 l.invariant.1 k b t.0 t.2))
 
@@ -46,17 +46,17 @@ loop-command-preserved c =
     let bytes = c.args.bytes.now in
     let l = c.loop-command in
     let k = c.in-Some.command in
-    let s = c.in-ok-statement.statement in
+    let s = c.in_ok-statement.statement in
     let known : ℕ → Bool = λ t. get_or l.known t false in
     let Good : Statement → Type 0 = λ s. rows_in s ≡ stated k in
     let b = subst (λ bs. Begins bs k) (take_rest bytes l.place) c.in-Some.ensures in
-    let a = subst (λ n. Answers (of_command (n + 1) known k) Good c.rows-stated.result) c.from-moments.ensures c.rows-stated.ensures in
-    let t = told_good l.place (of_command (c.args.last + 1) known k) Good c.rows-stated.result s a c.in-ok-statement.ensures in
-    let rows : vec_items c.add-rows.new.rows ≡ vec_items l.rows ++ rows_in s = pushed (rows_in s) refl c.in-ok-add-rows.was c.add-rows.ensures in (
+    let a = subst (λ n. Answers (of_command (n + 1) known k) Good c.rows_stated.result) c.from-moments.ensures c.rows_stated.ensures in
+    let t = told_good l.place (of_command (c.args.last + 1) known k) Good c.rows_stated.result s a c.in_ok-statement.ensures in
+    let rows : vec_items c.add_rows.new.rows ≡ vec_items l.rows ++ rows_in s = pushed (rows_in s) refl c.in_ok-add_rows.was c.add_rows.ensures in (
       l.invariant.0 ++ k ∷ [],
-      subst (λ n. Progress bytes c.args.last (l.place + n) c.mark-declared.new.known (vec_items c.add-rows.new.rows) (l.invariant.0 ++ k ∷ [])) (sym c.size-place.ensures)
-          (progress_more bytes c.args.last l.place l.known (vec_items l.rows) l.invariant.0 l.invariant.1 k b c.mark-declared.new.known (vec_items c.add-rows.new.rows)
-          t.0 c.mark-declared.array_long c.mark-declared.ensures (rows ∙ ap (λ rs. vec_items l.rows ++ rs) t.1)),
+      subst (λ n. Progress bytes c.args.last (l.place + n) c.mark_declared.new.known (vec_items c.add_rows.new.rows) (l.invariant.0 ++ k ∷ [])) (sym c.size-place.ensures)
+          (progress_more bytes c.args.last l.place l.known (vec_items l.rows) l.invariant.0 l.invariant.1 k b c.mark_declared.new.known (vec_items c.add_rows.new.rows)
+          t.0 c.mark_declared.array_long c.mark_declared.ensures (rows ∙ ap (λ rs. vec_items l.rows ++ rs) t.1)),
     )
 
 pub returns : goal.returns
@@ -68,6 +68,6 @@ returns c =
         at = p.at;
         within = p.within;
         rows = p.rows_are;
-        last = subst NoCommand (take_rest c.args.bytes.now c.loop-command.place) c.in-default.ensures;
+        last = subst NoCommand (take_rest c.args.bytes.now c.loop-command.place) c.in_default.ensures;
       },
     )

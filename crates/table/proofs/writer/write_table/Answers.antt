@@ -11,17 +11,17 @@ use Rattle.table.proofs.writer.write_table.Goals as goal
 
 pub unreachable-requires : goal.unreachable-requires
 unreachable-requires g c =
-    nth_there (g.S.Source.scene c.args.source.now).rows c.loop-i.i (omega (arith, c.in-ok-count.ensures.1)) (sym c.in-default.is ∙ c.row.ensures)
+    nth_there (g.S.Source.scene c.args.source.now).rows c.loop-i.i (omega (arith, c.in_ok-count.ensures.1)) (sym c.in_default.is ∙ c.row.ensures)
 
 pub loop-i-init : goal.loop-i-init
 loop-i-init g c =
     let xs = c.args.out.now in
     let m = c.moments.result - 1 in
-    let room = at_most (length xs) (3 + 4 * c.in-ok-count.count) c.in-ok-size.ensures.0.0 in
+    let room = at_most (length xs) (3 + 4 * c.in_ok-count.count) c.in_ok-size.ensures.0.0 in
     header_put xs 16 m (omega arith) ∙ ap (λ n. 16 ∷ (n - 1) ∷ drop 2 (set (set xs 0 16) 1 m)) c.moments.ensures
 
-pub row-bytes-requires : goal.row-bytes-requires
-row-bytes-requires g c =
+pub row_bytes-requires : goal.row_bytes-requires
+row_bytes-requires g c =
     let s = g.S.Source.scene c.args.source.now in
     let o = own_row s.moments s.rows c.loop-i.i c.in-Some.row s.lawful.own (sym c.in-Some.is ∙ c.row.ensures) in
     (omega (arith, s.lawful.few, o.left), omega (arith, s.lawful.few, o.right))
@@ -29,16 +29,16 @@ row-bytes-requires g c =
 pub loop-i-preserved : goal.loop-i-preserved
 loop-i-preserved g c =
     let s = g.S.Source.scene c.args.source.now in
-    row_turn (s.moments - 1) s.rows c.loop-i.i c.in-Some.row _ c.loop-i.out c.copy-from-slice.new.self (omega (arith, c.in-ok-count.ensures.1)) (sym c.in-Some.is ∙ c.row.ensures)
-    c.loop-i.invariant (c.copy-from-slice.ensures.after ∙ c.row-bytes.ensures)
+    row_turn (s.moments - 1) s.rows c.loop-i.i c.in-Some.row _ c.loop-i.out c.copy_from_slice.new.self (omega (arith, c.in_ok-count.ensures.1)) (sym c.in-Some.is ∙ c.row.ensures)
+    c.loop-i.invariant (c.copy_from_slice.ensures.after ∙ c.row_bytes.ensures)
 
 pub returns : goal.returns
 returns g c =
     let s = g.S.Source.scene c.args.source.now in
     let xs = c.args.out.now in
-    let n = c.in-ok-count.count in
-    let counted = c.in-ok-count.ensures in
-    let sized = c.in-ok-size.ensures in
+    let n = c.in_ok-count.count in
+    let counted = c.in_ok-count.ensures in
+    let sized = c.in_ok-size.ensures in
     let few = at_most 4096 (length s.rows) counted.0.0 in
     let room = at_most (length xs) (3 + 4 * n) sized.0.0 in
     let done : c.loop-i.i ≡ n = omega arith in
@@ -51,6 +51,6 @@ returns g c =
     record {
       size = ((counted.0.0, ((λ h. omega (arith, counted.1)), tt)), (sized.1 ∙ ap (λ m. 3 + 4 * m) counted.1, size));
       bytes = exit;
-      back = subst (λ bs. Reads bs (found s.moments s.rows)) (sym (ap (take c.in-ok-size.size) exit ∙ take_at (written s.moments s.rows) _ c.in-ok-size.size (sym size)))
+      back = subst (λ bs. Reads bs (found s.moments s.rows)) (sym (ap (take c.in_ok-size.size) exit ∙ take_at (written s.moments s.rows) _ c.in_ok-size.size (sym size)))
           (reads_back s.moments s.rows s.lawful few);
     }

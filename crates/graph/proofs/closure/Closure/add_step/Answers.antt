@@ -16,14 +16,17 @@ returns-then-reaches c =
       paths = λ rs tells. same_tells t (grown t c.args.from c.args.to) known (right_grown t (Step rs) c.args.from c.args.to p q tells);
     }
 
-pub invariant-of-self : goal.invariant-of-self
-invariant-of-self c =
+pub invariant_of-self : goal.invariant_of-self
+invariant_of-self c =
     let t = reaches c.args.self.now.rows in
     let u = reaches c.grow.new.rows in
     let p : c.args.from < 256 = omega arith in
     let q : c.args.to < 256 = omega arith in
     let joins = c.args.self.now.joins in
-    (grown_selfs t u c.args.from c.args.to p q joins c.grow.ensures c.args.self.now.selfs, (grown_joins t u c.args.from c.args.to p q joins c.grow.ensures, tt))
+    record {
+      selfs = grown_selfs t u c.args.from c.args.to p q joins c.grow.ensures c.args.self.now.selfs;
+      joins = grown_joins t u c.args.from c.args.to p q joins c.grow.ensures;
+    }
 
 pub returns : goal.returns
 returns c =

@@ -4,10 +4,10 @@ use Rattle.graph.proofs.Closed.{alone_selfs, alone_joins, same_tells}
 use Rattle.graph.proofs.Tables.{right_none}
 use Rattle.graph.proofs.closure.Closure.new.Goals as goal
 
-pub invariant-of-result : goal.invariant-of-result
-invariant-of-result c =
+pub invariant_of-result : goal.invariant_of-result
+invariant_of-result c =
     let t = reaches c.alone.result in
-    (alone_selfs t c.alone.ensures, (alone_joins t c.alone.ensures, tt))
+    record { selfs = alone_selfs t c.alone.ensures; joins = alone_joins t c.alone.ensures }
 
 pub returns : goal.returns
 returns c = record {

@@ -3,14 +3,14 @@ use Rattle.graph.proofs.Closed.{tells_selfs, tells_joins}
 use Rattle.graph.proofs.Reading.{lawful_inside}
 use Rattle.graph.proofs.closure.Closure.of.Goals as goal
 
-pub invariant-of-result : goal.invariant-of-result
-invariant-of-result g c =
+pub invariant_of-result : goal.invariant_of-result
+invariant_of-result g c =
     let s = g.S.Source.scene c.args.source.now in
     let t = reaches c.close.new.rows in
-    let tells : Tells t s.rows = c.close.ensures s.rows (lawful_inside s.moments s.rows s.lawful) c.steps-of-rows.ensures in
+    let tells : Tells t s.rows = c.close.ensures s.rows (lawful_inside s.moments s.rows s.lawful) c.steps_of-rows.ensures in
     (tells_selfs t s.rows tells, (tells_joins t s.rows tells, tt))
 
 pub returns : goal.returns
 returns g c =
     let s = g.S.Source.scene c.args.source.now in
-    c.close.ensures s.rows (lawful_inside s.moments s.rows s.lawful) c.steps-of-rows.ensures
+    c.close.ensures s.rows (lawful_inside s.moments s.rows s.lawful) c.steps_of-rows.ensures

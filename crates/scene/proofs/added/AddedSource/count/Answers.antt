@@ -5,4 +5,4 @@ use Rattle.scene.proofs.added.AddedSource.count.Goals as goal
 pub returns : goal.returns
 returns g c =
     let more = c.args.self.now.more.now in
-    pile_length (g.S.Source.scene c.args.self.now.below.now).rows more c.pile-count.result (c.pile-count.ensures ∙ ap (λ n. min (n + length more) 8192) c.count.ensures)
+    pile_length (g.S.Source.scene c.args.self.now.below.now).rows more c.pile_count.result (c.pile_count.ensures ∙ ap (λ n. min (n + length more) 8192) c.count.ensures)

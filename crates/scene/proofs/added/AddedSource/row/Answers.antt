@@ -17,7 +17,7 @@ returns-in-Above g c =
     let s = g.S.Source.scene c.args.self.now.below.now in
     let k = c.args.position in
     let j = c.in-Above.position in
-    nth_from_row_in c.args.self.now.more.now j c.row-in.result c.row-in.ensures ∙ pile_above s.rows c.args.self.now.more.now k j (subst (λ n. StandsAt k n (Above j)) c.count.ensures c.in-Above.ensures)
+    nth_from_row_in c.args.self.now.more.now j c.row_in.result c.row_in.ensures ∙ pile_above s.rows c.args.self.now.more.now k j (subst (λ n. StandsAt k n (Above j)) c.count.ensures c.in-Above.ensures)
 
 pub returns-in-Past : goal.returns-in-Past
 returns-in-Past g c = pile_past (g.S.Source.scene c.args.self.now.below.now).rows c.args.self.now.more.now c.args.position c.in-Past.ensures

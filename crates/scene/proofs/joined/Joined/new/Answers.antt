@@ -6,5 +6,5 @@ pub returns : goal.returns
 returns g c =
     let a = (g.S.Source.scene c.args.first.now).rows in
     let b = (g.T.Source.scene c.args.second.now).rows in
-    let few = at_most 8192 (c.count.result + c.count-2.result) c.in-ok-check-pile.ensures.0.0 in
+    let few = at_most 8192 (c.count.result + c.count-2.result) c.in_ok-check_pile.ensures.0.0 in
     (((λ h. omega arith), tt), (refl, pile_whole a b (omega arith)))

@@ -4,19 +4,17 @@ use Rattle.scene.proofs.Marking.{missed_le, ranked_as, open_as, turn_as}
 use Rattle.scene.proofs.RowByRow.{is_true}
 use Rattle.scene.proofs.left_out.LeftOut.new.Goals as goal
 
-pub invariant-of-result : goal.invariant-of-result
-invariant-of-result g c =
+pub invariant_of-result : goal.invariant_of-result
+invariant_of-result g c =
     let marks = c.args.marks.now in
-    let hit : ℕ → Bool = λ k. get_or c.in-ok-table.table k false in
-    let told = c.in-ok-table.ensures in
-    let found = c.find-remaining.ensures in
-    let r = c.find-remaining.result in (
-      is_true (low marks) told.0.0,
-      (
-        ranked_as hit (marked marks) told.1 r.ranks 4096 found.ranked,
-        (
-          open_as hit (marked marks) told.1 r.positions 4096 found.«open»,
-          (missed_le (marked marks) 0 4096, (turn_as hit (marked marks) told.1 r.positions 4096 found.sequence, tt)),
-        ),
-      ),
-    )
+    let hit : ℕ → Bool = λ k. get_or c.in_ok-table.table k false in
+    let told = c.in_ok-table.ensures in
+    let found = c.find_remaining.ensures in
+    let r = c.find_remaining.result in
+    record {
+      markable = is_true (low marks) told.0.0;
+      ranked = ranked_as hit (marked marks) told.1 r.ranks 4096 found.ranked;
+      «open» = open_as hit (marked marks) told.1 r.positions 4096 found.«open»;
+      bounded = missed_le (marked marks) 0 4096;
+      sequence = turn_as hit (marked marks) told.1 r.positions 4096 found.sequence;
+    }

@@ -3,8 +3,8 @@ use Rattle.std.specs.List.{slice_get}
 use Rattle.scene.proofs.Marking.{nth_without, nth_after, none_past}
 use Rattle.scene.proofs.left_out.LeftOutSource.row.Goals as goal
 
-pub returns-then-position-ge-MOST-ROWS : goal.returns-then-position-ge-MOST-ROWS
-returns-then-position-ge-MOST-ROWS g c =
+pub returns-then-position-ge-MOST_ROWS : goal.returns-then-position-ge-MOST_ROWS
+returns-then-position-ge-MOST_ROWS g c =
     let self = c.args.self.now in
     let s = g.S.Source.scene self.below.now in
     none_past self.marks.now s.rows c.args.position (omega (arith, s.lawful.short))
