@@ -9,7 +9,7 @@ two_more was first both one other x y p q e f =
 
 pub returns : goal.returns
 returns c =
-    let f = c.in-ok-push.ensures in
-    let s = c.in-ok-push-2.ensures in
-    two_more (string_bytes c.args.text.now) (string_bytes c.push.new.self) (string_bytes c.push-2.new.self) (encode c.hex-digit.result) (encode c.hex-digit-2.result) _ _ f.bytes s.bytes
-    (f.ascii c.hex-digit.ensures.1 ∙ ap (λ d. d ∷ []) c.hex-digit.ensures.0) (s.ascii c.hex-digit-2.ensures.1 ∙ ap (λ d. d ∷ []) c.hex-digit-2.ensures.0)
+    let f = c.in_ok-push.ensures in
+    let s = c.in_ok-push-2.ensures in
+    two_more (string_bytes c.args.text.now) (string_bytes c.push.new.self) (string_bytes c.push-2.new.self) (encode c.hex_digit.result) (encode c.hex_digit-2.result) _ _ f.bytes s.bytes
+    (f.ascii c.hex_digit.ensures.1 ∙ ap (λ d. d ∷ []) c.hex_digit.ensures.0) (s.ascii c.hex_digit-2.ensures.1 ∙ ap (λ d. d ∷ []) c.hex_digit-2.ensures.0)

@@ -9,7 +9,7 @@ loop-byte-preserved c =
     let bytes = c.args.bytes.now in
     let i = c.loop-byte.byte-index in
     let b = get_or bytes i 0 in
-    c.in-ok-add-byte.ensures ∙ ap (λ bs. bs ++ hexed b) c.loop-byte.invariant ∙ flat_map_more hexed [] (take i bytes) b ∙ ap (flat_map hexed) (sym (take_more bytes i 0 (omega arith)))
+    c.in_ok-add_byte.ensures ∙ ap (λ bs. bs ++ hexed b) c.loop-byte.invariant ∙ flat_map_more hexed [] (take i bytes) b ∙ ap (flat_map hexed) (sym (take_more bytes i 0 (omega arith)))
 
 pub returns : goal.returns
 returns c = c.loop-byte.invariant ∙ ap (flat_map hexed) (take_all c.loop-byte.byte-index c.args.bytes.now (omega arith))

@@ -10,7 +10,7 @@ use Rattle.report.proofs.rows.listing.Goals as goal
 
 pub unreachable-requires : goal.unreachable-requires
 unreachable-requires g c =
-    nth_there (g.S.Source.scene c.args.source.now).rows c.loop-position.position (omega (arith, c.count-position-end.ensures)) (sym c.in-default.is ∙ c.row.ensures)
+    nth_there (g.S.Source.scene c.args.source.now).rows c.loop-position.position (omega (arith, c.count-position-end.ensures)) (sym c.in_default.is ∙ c.row.ensures)
 
 -- one line more
 line_more : (rows : List Row) (i : ℕ) (r : Row) (text text' line whole : List ℕ) → i < length rows → Some r ≡ slice_get rows i → line ≡ row_line i r → text' ≡ text ++ line
@@ -25,9 +25,9 @@ pub loop-position-preserved : goal.loop-position-preserved
 loop-position-preserved g c =
     let rows = (g.S.Source.scene c.args.source.now).rows in
     let text = string_bytes c.loop-position.text in
-    line_more rows c.loop-position.position c.in-Some.row text (string_bytes c.push-str.new.self) (string_bytes c.in-ok-line.line) _ (omega (arith, c.count-position-end.ensures))
-    (sym c.in-Some.is ∙ c.row.ensures) c.in-ok-line.ensures
-    (pushed {was = text} _ refl c.in-ok-push-str.was c.push-str.ensures.bytes ∙ ap (λ bs. text ++ bs) c.as-str.ensures.value) c.loop-position.invariant
+    line_more rows c.loop-position.position c.in-Some.row text (string_bytes c.push_str.new.self) (string_bytes c.in_ok-line.line) _ (omega (arith, c.count-position-end.ensures))
+    (sym c.in-Some.is ∙ c.row.ensures) c.in_ok-line.ensures
+    (pushed {was = text} _ refl c.in_ok-push_str.was c.push_str.ensures.bytes ∙ ap (λ bs. text ++ bs) c.as_str.ensures.value) c.loop-position.invariant
 
 pub returns : goal.returns
 returns g c =

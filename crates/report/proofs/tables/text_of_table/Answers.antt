@@ -12,11 +12,11 @@ use Rattle.report.proofs.tables.text_of_table.Goals as goal
 fits_in : (w rest out : List ℕ) (size : ℕ) → size ≡ length w → out ≡ w ++ rest → size ≤ length out
 fits_in w rest out size is e = omega (arith, ap length e, length-append w rest)
 
-pub slice-bounds-hex-end : goal.slice-bounds-hex-end
-slice-bounds-hex-end c =
+pub slice_bounds-hex-end : goal.slice_bounds-hex-end
+slice_bounds-hex-end c =
     let t = c.args.table.now in
     let w = c.in-Ok.ensures in
-    let h = fits_in (written t.moments (vec_items t.rows)) _ c.write-table.new.out c.in-Ok.size w.size.1.1 w.bytes in omega arith
+    let h = fits_in (written t.moments (vec_items t.rows)) _ c.write_table.new.out c.in-Ok.size w.size.1.1 w.bytes in omega arith
 
 front : (w rest out : List ℕ) (size : ℕ) → size ≡ length w → out ≡ w ++ rest → take (size - 0) out ≡ w
 front w rest out size is e = let z : size - 0 ≡ length w = omega arith in (λ i. take (z i) (e i)) ∙ take_at w rest (length w) refl
@@ -30,5 +30,5 @@ returns c =
     let t = c.args.table.now in
     let w = c.in-Ok.ensures in
     let size = c.in-Ok.size in
-    let bytes = c.in-ok-bytes.ensures ∙ ap (flat_map hexed) (front (written t.moments (vec_items t.rows)) _ c.write-table.new.out size w.size.1.1 w.bytes) in
-    IfOk-weaker c.format.result _ _ (λ s e. e ∙ all_text t.moments (vec_items t.rows) _ _ size c.in-ok-rows.ensures w.size.1.1 bytes) c.format.ensures.ok
+    let bytes = c.in_ok-bytes.ensures ∙ ap (flat_map hexed) (front (written t.moments (vec_items t.rows)) _ c.write_table.new.out size w.size.1.1 w.bytes) in
+    IfOk-weaker c.format.result _ _ (λ s e. e ∙ all_text t.moments (vec_items t.rows) _ _ size c.in_ok-rows.ensures w.size.1.1 bytes) c.format.ensures.ok

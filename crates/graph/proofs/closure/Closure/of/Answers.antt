@@ -8,7 +8,7 @@ invariant_of-result g c =
     let s = g.S.Source.scene c.args.source.now in
     let t = reaches c.close.new.rows in
     let tells : Tells t s.rows = c.close.ensures s.rows (lawful_inside s.moments s.rows s.lawful) c.steps_of-rows.ensures in
-    (tells_selfs t s.rows tells, (tells_joins t s.rows tells, tt))
+    record { selfs = tells_selfs t s.rows tells; joins = tells_joins t s.rows tells }
 
 pub returns : goal.returns
 returns g c =
