@@ -29,11 +29,11 @@ small c =
     let short : length (take i bs) ≤ 3 = omega (arith, length-take-le i bs (omega arith)) in
     omega (arith, digits_value_short own (take i bs) 3 c.loop-b.invariant.0 short)
 
-pub overflow-mul-n : goal.overflow-mul-n
-overflow-mul-n c = omega (arith, small c)
+pub overflow_mul-n : goal.overflow_mul-n
+overflow_mul-n c = omega (arith, small c)
 
-pub overflow-add-n : goal.overflow-add-n
-overflow-add-n c = omega (arith, small (goal.at.overflow-add-n c).Else-b-gt57)
+pub overflow_add-n : goal.overflow_add-n
+overflow_add-n c = omega (arith, small (goal.at.overflow_add-n c).Else-b-gt57)
 
 pub loop-b-preserved : goal.loop-b-preserved
 loop-b-preserved c =

@@ -29,5 +29,5 @@ module _ (c : ℕ) (bs : List ℕ) where
 pub returns : goal.returns
 returns c =
     let s = c.args.self.now in
-    one s.byte s.bytes.now c.first-piece-piece.result.now s.at (omega arith)
-    (subst (λ rest. FirstPiece s.byte rest c.first-piece-piece.result.now) (take_rest s.bytes.now s.at) c.first-piece-piece.ensures)
+    one s.byte s.bytes.now c.first_piece-piece.result.now s.at (omega arith)
+    (subst (λ rest. FirstPiece s.byte rest c.first_piece-piece.result.now) (take_rest s.bytes.now s.at) c.first_piece-piece.ensures)
