@@ -46,10 +46,10 @@ fn refuse(refusal: Refusal, place: usize) -> ReadError
 }
 
 // The result with the place of its refusal.
-fn at_place<T>(place: usize, res: Result<T, Refusal>) -> Result<T, ReadError>
-    ensures { result ≡ result_map_both same (fault_at place) res }
+fn at_place<T>(place: usize, outcome: Result<T, Refusal>) -> Result<T, ReadError>
+    ensures { result ≡ result_map_both same (fault_at place) outcome }
 {
-    match res {
+    match outcome {
         Ok(value) => Ok(value),
         Err(refusal) => Err(refuse(refusal, place)),
     }
