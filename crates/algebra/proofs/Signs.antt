@@ -1,13 +1,13 @@
 -- How two whole numbers stand to each other.
 use Rattle.std.proofs.Common.{◌≡◌, Bool, true, ◌||◌, List, [], ◌∷◌, ℤ, ◌+ℤ◌, ◌<ℤ◌, refl, ap, arith, lit<}
-use Rattle.std.specs.List.{ContainsAt as Has}
+use Rattle.std.specs.List.{ContainsAt as Has, list_all}
 use Rattle.std.proofs.lemmas.Int.{ints, by_lt_z}
 use Rattle.std.proofs.lemmas.Bool.{eq-eqb}
 use Rattle.std.proofs.lemmas.Bool.Decides.{nat_tests}
 use Rattle.algebra.specs.declared.points.Relation.{Relation}
 use Rattle.algebra.specs.declared.points.Relation.TheVariants.{Before, Together, After}
 use Rattle.algebra.specs.Points.{value_of, Holds}
-use Rattle.algebra.specs.Rules.{every, same}
+use Rattle.algebra.specs.Rules.{same}
 use Rattle.algebra.proofs.Passing.{passes}
 
 pub trichotomy : (x y : ℤ) → (q : Relation) × Holds q x y
@@ -37,5 +37,5 @@ in_three Before = (0, lit< tt, λ _. refl)
 in_three Together = (1, lit< tt, λ _. refl)
 in_three After = (2, lit< tt, λ _. refl)
 
-pub at_each : (f : Relation → Bool) → every f three ≡ true → (q : Relation) → f q ≡ true
+pub at_each : (f : Relation → Bool) → list_all f three ≡ true → (q : Relation) → f q ≡ true
 at_each f e q = passes f three q (in_three q) e

@@ -1,7 +1,7 @@
 -- Sets of title relations, as the sums of the values of their members.
 use Rattle.std.specs.Prelude.{ℕ, Bool, cond, List, sum_by, ◌==◌}
 use Rattle.algebra.specs.declared.titles.TitleRelation.{TitleRelation}
-use Rattle.algebra.specs.Rules.{any}
+use Rattle.std.specs.List.{list_any}
 use Rattle.algebra.specs.Titles.{facts, thirteen}
 
 -- whether two title relations are the same
@@ -10,7 +10,7 @@ alike t u = (facts t).value == (facts u).value
 
 -- whether a title relation occurs in a list
 abbrev pub occurs : List TitleRelation → TitleRelation → Bool
-occurs ts u = any (λ t. alike t u) ts
+occurs ts u = list_any (λ t. alike t u) ts
 
 -- what a title relation adds to the set of those that pass
 abbrev pub weight : (TitleRelation → Bool) → TitleRelation → ℕ

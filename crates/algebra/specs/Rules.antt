@@ -1,5 +1,6 @@
 -- What a title rule says of the moments of its titles.
-use Rattle.std.specs.Prelude.{◌≡◌, ℕ, ◌+◌, Bool, true, false, cond, not, ◌&&◌, ◌||◌, List, [], ◌∷◌, map, Some, None, Option, MatchOption, ◌==◌, nat_le, slice_index}
+use Rattle.std.specs.Prelude.{◌≡◌, ℕ, ◌+◌, Bool, true, cond, not, ◌&&◌, ◌||◌, List, [], ◌∷◌, map, Some, None, Option, MatchOption, ◌==◌, nat_le, slice_index}
+use Rattle.std.specs.List.{list_any, list_all}
 use Rattle.algebra.specs.declared.points.Relation.{Relation}
 use Rattle.algebra.specs.declared.points.Relation.TheVariants.{Before, Together, After}
 use Rattle.algebra.specs.declared.titles.Pair.{Pair}
@@ -12,23 +13,13 @@ use Rattle.algebra.specs.Titles.{thirteen, pairs, place, sign, holds, left, righ
 abbrev pub same : Relation → Relation → Bool
 same q r = value_of q == value_of r
 
--- whether an element passes
-abbrev pub any : {X : Type 0} → (X → Bool) → List X → Bool
-any f [] = false
-any f (x ∷ xs) = f x || any f xs
-
--- whether each element passes
-abbrev pub every : {X : Type 0} → (X → Bool) → List X → Bool
-every f [] = true
-every f (x ∷ xs) = f x && every f xs
-
 -- whether a title relation is in the set, with that sign at the pair
 abbrev pub shows : ℕ → Pair → Relation → TitleRelation → Bool
 shows set k q t = holds set t && same (sign t k) q
 
 -- whether a member of the set has the sign at the pair
 unfoldable pub shown : ℕ → Pair → Relation → Bool
-shown set k q = any (shows set k q) thirteen
+shown set k q = list_any (shows set k q) thirteen
 
 -- what the sign adds to the pair's set
 abbrev pub share : ℕ → Pair → Relation → ℕ
@@ -44,7 +35,7 @@ sign_sets set = map (sign_set set) pairs
 
 -- whether all four signs of a title relation are in the sets
 abbrev pub fits : TitleRelation → List ℕ → Bool
-fits t sets = every (λ k. has (slice_index sets (place k)) (sign t k)) pairs
+fits t sets = list_all (λ k. has (slice_index sets (place k)) (sign t k)) pairs
 
 -- whether a title relation is in the set, or has a sign outside the set's four sets
 abbrev pub settled : ℕ → TitleRelation → Bool
@@ -52,7 +43,7 @@ settled set t = holds set t || not (fits t (sign_sets set))
 
 -- whether no relation outside the set has all four signs in its sets
 unfoldable pub closed : ℕ → Bool
-closed set = every (settled set) thirteen
+closed set = list_all (settled set) thirteen
 
 -- the set of a rule is from 1 to 8191, and a pointisable one is closed
 abbrev pub pointisable : ℕ → Bool

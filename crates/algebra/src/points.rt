@@ -1,12 +1,15 @@
 // The three relations between moments, and sets of them.
-ghost use Rattle.std.specs.Prelude.{◌≡◌};
+ghost use Rattle.std.specs.Prelude.{◌≡◌, ◌/◌, ◌%◌, ◌≤◌, ◌==◌, Some};
 ghost use Rattle.algebra.specs.Points.{value_of, word_of, has};
 
+use std::fmt;
+
+// A relation's number is what it adds to a set.
 #[derive(Clone, Copy, Debug, PartialEq, Eq)]
 pub enum Relation {
-    Before,
-    Together,
-    After,
+    Before = 1,
+    Together = 2,
+    After = 4,
 }
 
 impl Relation {
@@ -14,11 +17,7 @@ impl Relation {
     pub fn value(self) -> u8
         ensures { result ≡ value_of self }
     {
-        match self {
-            Relation::Before => 1,
-            Relation::Together => 2,
-            Relation::After => 4,
-        }
+        self as u8
     }
 
     pub fn word(self) -> &'static str
@@ -35,6 +34,22 @@ impl Relation {
     pub fn is_in(self, set: u8) -> bool
         ensures { result ≡ has set self }
     {
-        set / self.value() % 2 == 1
+        has_value(u16::from(set), u16::from(self.value()))
     }
+}
+
+impl fmt::Display for Relation {
+    ghost output = { λ q. Some (word_of q) };
+
+    fn fmt<W: fmt::Write>(&self, f: &mut fmt::Formatter<W>) -> fmt::Result {
+        f.write_str(self.word())
+    }
+}
+
+// Whether a set, the sum of the values of its members, has the one with this value.
+pub(crate) fn has_value(set: u16, value: u16) -> bool
+    requires { 1 ≤ value }
+    ensures { result ≡ (set / value % 2 == 1) }
+{
+    set / value % 2 == 1
 }

@@ -1,6 +1,6 @@
 // What a title rule says of the moments of its titles.
 ghost use Rattle.std.specs.Prelude.{◌≡◌, if◌then◌else◌, Some, None};
-ghost use Rattle.algebra.specs.Rules.{shows, shown, share, sign_set, sign_sets, fits, settled, pointisable, rows_with, ruled, sets_if, Exact, Worked};
+ghost use Rattle.algebra.specs.Rules.{shows, shown, share, sign_set, sign_sets, fits, settled, closed, pointisable, rows_with, ruled, sets_if, Exact, Worked};
 
 use crate::points::Relation;
 use crate::titles::{Pair, TitleRelation};
@@ -8,23 +8,13 @@ use crate::titles::{Pair, TitleRelation};
 // The largest set of title relations.
 pub const ALL_RELATIONS: u16 = 8191;
 
-// Whether a title relation is in the set, with that sign at the pair.
-fn shows(set: u16, pair: Pair, sign: Relation, t: TitleRelation) -> bool
-    ensures { result ≡ shows set pair sign t }
-{
-    t.is_in(set) && t.sign(pair) == sign
-}
-
 // Whether a member of the set has the sign at the pair.
 fn is_shown(set: u16, pair: Pair, sign: Relation) -> bool
     ensures { result ≡ shown set pair sign }
 {
-    for t in TitleRelation::all() {
-        if shows(set, pair, sign, t) {
-            return true;
-        }
-    }
-    false
+    TitleRelation::all()
+        .iter()
+        .any(|t| t.is_in(set) && t.sign(pair) == sign)
 }
 
 // What a sign adds to the pair's set.
@@ -51,23 +41,16 @@ fn set_at(set: u16, pair: Pair) -> u8
 pub fn sets_of(set: u16) -> [u8; 4]
     ensures { result ≡ sign_sets set }
 {
-    [
-        set_at(set, Pair::RiseRise),
-        set_at(set, Pair::RiseFall),
-        set_at(set, Pair::FallRise),
-        set_at(set, Pair::FallFall),
-    ]
+    Pair::all().map(|pair| set_at(set, pair))
 }
 
 // Whether all four signs of a title relation are in the sets.
 fn is_within(t: TitleRelation, sets: [u8; 4]) -> bool
     ensures { result ≡ fits t sets }
 {
-    let [rises, rise_fall, fall_rise, falls] = sets;
-    t.sign(Pair::RiseRise).is_in(rises)
-        && t.sign(Pair::RiseFall).is_in(rise_fall)
-        && t.sign(Pair::FallRise).is_in(fall_rise)
-        && t.sign(Pair::FallFall).is_in(falls)
+    Pair::all()
+        .iter()
+        .all(|pair| t.sign(*pair).is_in(sets[*pair as usize]))
 }
 
 // Whether a title relation is in the set, or has a sign outside the set's four sets.
@@ -78,31 +61,28 @@ fn is_settled(set: u16, sets: [u8; 4], t: TitleRelation) -> bool
     t.is_in(set) || !is_within(t, sets)
 }
 
-// Whether the set is one of a title rule, and no relation outside it has all four signs in the rule's sets.
+// Whether no relation outside the set has all four signs in the set's four sets.
+fn is_closed(set: u16) -> bool
+    ensures { result ≡ closed set }
+{
+    let sets = sets_of(set);
+    TitleRelation::all()
+        .iter()
+        .all(|t| is_settled(set, sets, *t))
+}
+
+// Whether the set is one of a title rule, and closed.
 pub fn is_pointisable(set: u16) -> bool
     ensures { result ≡ pointisable set }
 {
-    if set == 0 || set > ALL_RELATIONS {
-        return false;
-    }
-    let sets = sets_of(set);
-    for t in TitleRelation::all() {
-        if !is_settled(set, sets, t) {
-            return false;
-        }
-    }
-    true
+    1 <= set && set <= ALL_RELATIONS && is_closed(set)
 }
 
 // The four sets of a rule, where it is pointisable.
 fn sets_where(set: u16) -> Option<[u8; 4]>
     ensures { result ≡ sets_if set }
 {
-    if is_pointisable(set) {
-        Some(sets_of(set))
-    } else {
-        None
-    }
+    is_pointisable(set).then_some(sets_of(set))
 }
 
 // The four sets of a rule, where it is pointisable, with three that are worked by hand.
@@ -132,9 +112,6 @@ pub fn rows_of(x: u8, set: u16, y: u8) -> Option<[(u16, u8, u16); 4]>
     ensures value { result ≡ (if pointisable set then Some (ruled x set y) else None) }
     ensures exact { Exact x set y result }
 {
-    if is_pointisable(set) {
-        Some(rows_with(x, sets_of(set), y))
-    } else {
-        None
-    }
+    let sets = sets_where(set)?;
+    Some(rows_with(x, sets, y))
 }

@@ -1,24 +1,25 @@
 // The thirteen relations between titles.
-ghost use Rattle.std.specs.Prelude.{◌≡◌, MatchOption};
-ghost use Rattle.algebra.specs.Titles.{facts, NoSymbol, sign, holds, thirteen, OneHolds};
+ghost use Rattle.std.specs.Prelude.{◌≡◌, Decides, MatchOption};
+ghost use Rattle.algebra.specs.Titles.{facts, NoSymbol, pairs, sign, holds, thirteen, OneHolds};
 
-use crate::points::Relation;
+use crate::points::{Relation, has_value};
 
+// A relation's number is what it adds to a set of title relations.
 #[derive(Clone, Copy, Debug, PartialEq, Eq)]
 pub enum TitleRelation {
-    Precedes,
-    PrecededBy,
-    Meets,
-    MetBy,
-    Overlaps,
-    OverlappedBy,
-    During,
-    Contains,
-    Starts,
-    StartedBy,
-    Finishes,
-    FinishedBy,
-    Equals,
+    Precedes = 1,
+    PrecededBy = 2,
+    Meets = 4,
+    MetBy = 8,
+    Overlaps = 16,
+    OverlappedBy = 32,
+    During = 64,
+    Contains = 128,
+    Starts = 256,
+    StartedBy = 512,
+    Finishes = 1024,
+    FinishedBy = 2048,
+    Equals = 4096,
 }
 
 // A moment of one title beside a moment of another: the four pairs that are compared.
@@ -28,6 +29,20 @@ pub enum Pair {
     RiseFall,
     FallRise,
     FallFall,
+}
+
+impl Pair {
+    // The four, in the sequence of the signs.
+    pub(crate) fn all() -> [Pair; 4]
+        ensures { result ≡ pairs }
+    {
+        [
+            Pair::RiseRise,
+            Pair::RiseFall,
+            Pair::FallRise,
+            Pair::FallFall,
+        ]
+    }
 }
 
 impl TitleRelation {
@@ -64,21 +79,7 @@ impl TitleRelation {
     pub fn value(self) -> u16
         ensures { result ≡ (facts self).value }
     {
-        match self {
-            TitleRelation::Precedes => 1,
-            TitleRelation::PrecededBy => 2,
-            TitleRelation::Meets => 4,
-            TitleRelation::MetBy => 8,
-            TitleRelation::Overlaps => 16,
-            TitleRelation::OverlappedBy => 32,
-            TitleRelation::During => 64,
-            TitleRelation::Contains => 128,
-            TitleRelation::Starts => 256,
-            TitleRelation::StartedBy => 512,
-            TitleRelation::Finishes => 1024,
-            TitleRelation::FinishedBy => 2048,
-            TitleRelation::Equals => 4096,
-        }
+        self as u16
     }
 
     pub fn symbol(self) -> &'static str
@@ -101,26 +102,21 @@ impl TitleRelation {
         }
     }
 
+    // Whether these bytes are the relation's symbol.
+    fn has_symbol(self, bytes: &[u8]) -> bool
+        ensures { Decides result (bytes.now ≡ (facts self).symbol) }
+    {
+        self.symbol().as_bytes() == bytes
+    }
+
     // The relation that has this symbol.
     pub fn of_symbol(bytes: &[u8]) -> Option<TitleRelation>
         ensures { MatchOption result (NoSymbol bytes.now) (λ t. bytes.now ≡ (facts t).symbol) }
     {
-        match bytes {
-            b"b" => Some(TitleRelation::Precedes),
-            b"bi" => Some(TitleRelation::PrecededBy),
-            b"m" => Some(TitleRelation::Meets),
-            b"mi" => Some(TitleRelation::MetBy),
-            b"o" => Some(TitleRelation::Overlaps),
-            b"oi" => Some(TitleRelation::OverlappedBy),
-            b"d" => Some(TitleRelation::During),
-            b"di" => Some(TitleRelation::Contains),
-            b"s" => Some(TitleRelation::Starts),
-            b"si" => Some(TitleRelation::StartedBy),
-            b"f" => Some(TitleRelation::Finishes),
-            b"fi" => Some(TitleRelation::FinishedBy),
-            b"eq" => Some(TitleRelation::Equals),
-            _ => None,
-        }
+        TitleRelation::all()
+            .iter()
+            .find(|t| t.has_symbol(bytes))
+            .copied()
     }
 
     // The four signs: how the moments of each pair stand to each other.
@@ -148,19 +144,13 @@ impl TitleRelation {
     pub fn sign(self, pair: Pair) -> Relation
         ensures { result ≡ sign self pair }
     {
-        let [rises, rise_fall, fall_rise, falls] = self.signs();
-        match pair {
-            Pair::RiseRise => rises,
-            Pair::RiseFall => rise_fall,
-            Pair::FallRise => fall_rise,
-            Pair::FallFall => falls,
-        }
+        self.signs()[pair as usize]
     }
 
     // Whether the set holds the relation.
     pub fn is_in(self, set: u16) -> bool
         ensures { result ≡ holds set self }
     {
-        set / self.value() % 2 == 1
+        has_value(set, self.value())
     }
 }

@@ -1,12 +1,10 @@
 -- What the layers over a source mean, and what their making checks.
-use Rattle.std.specs.Prelude.{◌≡◌, ℕ, ◌+◌, ◌-◌, ◌<◌, ◌≤◌, max, true, false, ◌⊎◌, List, [], ◌∷◌, ◌++◌, length, take}
+use Rattle.std.specs.Prelude.{◌≡◌, ℕ, ◌+◌, ◌<◌, ◌≤◌, max, true, false, ◌⊎◌, List, [], ◌∷◌, ◌++◌, length, take}
 use Rattle.std.proofs.Common.{arith}
 use Rattle.std.proofs.lemmas.List.{length-take}
 use Rattle.algebra.specs.Placements.{Row}
 use Rattle.scene.specs.declared.refusals.Refusal.{Refusal}
 use Rattle.scene.specs.declared.refusals.Refusal.TheVariants.{OutsideScene, SetOutOfRange, TooManyRows, NoSuchRow}
-use Rattle.scene.specs.declared.piles.Standing.{Standing}
-use Rattle.scene.specs.declared.piles.Standing.TheVariants.{Below, Above, Past}
 use Rattle.scene.specs.Checks.{Check}
 use Rattle.scene.specs.Laws.{fit_more, fit_append, fit_take}
 use Rattle.scene.specs.Marks.{low, without, fit_without, length_without}
@@ -20,16 +18,14 @@ Piled n below more s = (s.moments ≡ n) × (s.rows ≡ below ++ more)
 abbrev pub pile : List Row → List Row → List Row
 pile rs ss = take 8192 (rs ++ ss)
 
--- where a position of the pile stands
-abbrev pub StandsAt : ℕ → ℕ → Standing → Type 0
-StandsAt k below (Below j) = (k < below) × (j ≡ k)
-StandsAt k below (Above j) = (below ≤ k) × (k < 8192) × (j ≡ k - below)
-StandsAt k below Past = 8192 ≤ k
+-- added: more rows, which were checked against n moments
+abbrev pub added : Scene → ℕ → List Row → Scene
+added s n more = record { moments = max s.moments n; rows = pile s.rows more }
 
--- rows that fit n moments, piled on those of a scene
-pub piled : (s : Scene) (n : ℕ) (more : List Row) → n ≤ 256 → all_fit n more ≡ true → Lawful (max s.moments n) (pile s.rows more)
-piled s n more few own =
-    let m = s.moments in let l = s.lawful in
+-- rows that fit n moments, added to a lawful scene
+pub added_lawful : (s : Scene) (n : ℕ) (more : List Row) → Lawful s → n ≤ 256 → all_fit n more ≡ true → Lawful (added s n more)
+added_lawful s n more l few own =
+    let m = s.moments in
     record {
       some = omega (arith, l.some);
       few = omega (arith, l.few);
@@ -37,13 +33,12 @@ piled s n more few own =
       own = fit_take (max m n) 8192 (s.rows ++ more) (fit_append (max m n) s.rows more (fit_more m (max m n) s.rows (omega arith) l.own) (fit_more n (max m n) more (omega arith) own));
     }
 
--- added: more rows, which were checked against n moments
-abbrev pub added : (s : Scene) (n : ℕ) (more : List Row) → n ≤ 256 → all_fit n more ≡ true → Scene
-added s n more few own = record { moments = max s.moments n; rows = pile s.rows more; lawful = piled s n more few own }
-
 -- joined: the rows of another scene
 abbrev pub joined : Scene → Scene → Scene
-joined a b = added a b.moments b.rows b.lawful.few b.lawful.own
+joined a b = added a b.moments b.rows
+
+pub joined_lawful : (a b : Scene) → Lawful a → Lawful b → Lawful (joined a b)
+joined_lawful a b l m = added_lawful a b.moments b.rows l m.few m.own
 
 -- what is checked of one row over n moments
 abbrev pub of_row : ℕ → Row → List (Check Refusal)
@@ -66,15 +61,14 @@ adding s more = row_by_row s.moments more ++ of_count (length s.rows) (length mo
 abbrev pub joining : Scene → Scene → List (Check Refusal)
 joining a b = (TooManyRows, 8192 < length a.rows + length b.rows) ∷ []
 
--- rows that are left are as lawful as all
-pub left_lawful : (s : Scene) (marks : List ℕ) → Lawful s.moments (without marks s.rows)
-left_lawful s marks =
-    let l = s.lawful in
-    record { some = l.some; few = l.few; short = omega (arith, length_without marks s.rows, l.short); own = fit_without s.moments marks s.rows l.own }
-
 -- left out: the rows below without the marked positions
 abbrev pub left_out : Scene → List ℕ → Scene
-left_out s marks = record { moments = s.moments; rows = without marks s.rows; lawful = left_lawful s marks }
+left_out s marks = record { moments = s.moments; rows = without marks s.rows }
+
+-- rows that are left are as lawful as all
+pub left_lawful : (s : Scene) (marks : List ℕ) → Lawful s → Lawful (left_out s marks)
+left_lawful s marks l =
+    record { some = l.some; few = l.few; short = omega (arith, length_without marks s.rows, l.short); own = fit_without s.moments marks s.rows l.own }
 
 -- the scene has the moments below, and the rows that are not marked
 abbrev pub LeavesOut : Scene → List ℕ → Scene → Type 0

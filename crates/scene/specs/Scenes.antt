@@ -1,5 +1,5 @@
 -- What a source means: a number of moments, and rows over them.
-use Rattle.std.specs.Prelude.{◌≡◌, ℕ, ◌<◌, ◌≤◌, Bool, true, ◌&&◌, List, [], ◌∷◌, length, Option, MatchOption, nat_le, nat_lt, slice_index_or}
+use Rattle.std.specs.Prelude.{◌≡◌, ℕ, ◌≤◌, Bool, true, ◌&&◌, List, [], ◌∷◌, length, nat_le, nat_lt}
 use Rattle.algebra.specs.Placements.{Row, Placement, ObeysAll}
 
 -- some placement obeys all rows
@@ -23,19 +23,14 @@ abbrev pub all_fit : ℕ → List Row → Bool
 all_fit n [] = true
 all_fit n (r ∷ rs) = (names n r && ranged r) && all_fit n rs
 
--- the law of every source: 1 to 256 moments, at most 8,192 rows, which name its own moments and have sets from 1 to 7
-pub record Lawful (moments : ℕ) (rows : List Row) : Type 0 where
-  pub some : 1 ≤ moments
-  pub few : moments ≤ 256
-  pub short : length rows ≤ 8192
-  pub own : all_fit moments rows ≡ true
-
--- a scene is lawful, so whoever says which scene a source means shows the law
+-- what a source means
 pub record Scene : Type 0 where
   pub moments : ℕ
   pub rows : List Row
-  pub lawful : Lawful moments rows
 
--- the row at a position of a list, and none at or past its end
-abbrev pub RowIn : List Row → ℕ → Option Row → Type 0
-RowIn rows k r = MatchOption r (length rows ≤ k) (λ row. (k < length rows) × (row ≡ slice_index_or rows k (0, 0, 0)))
+-- the law of every source: 1 to 256 moments, at most 8,192 rows, which name its own moments and have sets from 1 to 7
+pub record Lawful (s : Scene) : Type 0 where
+  pub some : 1 ≤ s.moments
+  pub few : s.moments ≤ 256
+  pub short : length s.rows ≤ 8192
+  pub own : all_fit s.moments s.rows ≡ true

@@ -2,7 +2,7 @@
 ghost use Rattle.std.specs.Prelude.{◌≡◌, ℕ, ◌<◌, ◌≤◌, true, false, [], ◌∷◌, get_or, MatchOption, slice_index_or};
 ghost use Rattle.scene.specs.declared.refusals.Refusal.TheVariants.{NoSuchRow};
 ghost use Rattle.scene.specs.Checks.{Answers};
-ghost use Rattle.scene.specs.Layers.{LeavesOut, left_out, leaving_out};
+ghost use Rattle.scene.specs.Layers.{LeavesOut, left_lawful, left_out, leaving_out};
 ghost use Rattle.scene.specs.Marks.{low, marked, unmarked, missed, Ranked, Open, InTurn};
 
 use crate::refusals::Refusal;
@@ -11,13 +11,14 @@ use crate::sources::{MOST_ROWS, Row, Source};
 // Positions from here on cannot be marked.
 const MARKABLE: usize = 4096;
 
+#[derive(Drop)]
 pub struct LeftOut<'a, 'm, S> {
     below: &'a S,
     marks: &'m [u16],
     // The markable positions that remain, in rising sequence.
-    positions: [u16; 4096],
+    positions: [u16; MARKABLE],
     // How many remain below each position up to the first that cannot be marked.
-    ranks: [u16; 4097],
+    ranks: [u16; MARKABLE + 1],
     ghost markable: { low marks.now ≡ true },
     ghost ranked: { Ranked (marked marks.now) ranks 4096 },
     ghost open: { Open (marked marks.now) positions (unmarked marks.now 4096) },
@@ -25,32 +26,21 @@ pub struct LeftOut<'a, 'm, S> {
     ghost sequence: { InTurn (marked marks.now) positions (unmarked marks.now 4096) },
 }
 
-impl<S> Drop for LeftOut<'_, '_, S> {
-    fn drop(self) {
-        let LeftOut {
-            below: _,
-            marks: _,
-            positions: _,
-            ranks: _,
-        } = self;
-    }
-}
-
 // Whether a position may be marked.
 fn check_mark(mark: u16) -> Result<(), Refusal>
     ensures { Answers ((NoSuchRow, 4095 < mark) ∷ []) (λ _. Unit {0}) result }
 {
-    if mark as usize >= MARKABLE {
+    if usize::from(mark) >= MARKABLE {
         return Err(Refusal::NoSuchRow);
     }
     Ok(())
 }
 
 // Which positions are marked.
-fn mark_table(marks: &[u16]) -> Result<[bool; 4096], Refusal>
+fn mark_table(marks: &[u16]) -> Result<[bool; MARKABLE], Refusal>
     ensures { Answers (leaving_out marks.now) (λ table. (k : ℕ) → slice_index_or table k false ≡ marked marks.now k) result }
 {
-    let mut table = [false; 4096];
+    let mut table = [false; MARKABLE];
     for mark in marks {
         check_mark(*mark)?;
         table[*mark as usize] = true;
@@ -59,21 +49,21 @@ fn mark_table(marks: &[u16]) -> Result<[bool; 4096], Refusal>
 }
 
 struct Remaining {
-    positions: [u16; 4096],
-    ranks: [u16; 4097],
+    positions: [u16; MARKABLE],
+    ranks: [u16; MARKABLE + 1],
 }
 
 // The positions that the table does not mark, and how many there are below each position.
-fn find_remaining(table: &[bool; 4096]) -> Remaining
+fn find_remaining(table: &[bool; MARKABLE]) -> Remaining
     ensures ranked { Ranked (λ k. get_or table.now k false) result.ranks 4096 }
     ensures open { Open (λ k. get_or table.now k false) result.positions (missed (λ k. get_or table.now k false) 0 4096) }
     ensures sequence { InTurn (λ k. get_or table.now k false) result.positions (missed (λ k. get_or table.now k false) 0 4096) }
 {
-    let mut positions = [0; 4096];
-    let mut ranks = [0; 4097];
+    let mut positions = [0; MARKABLE];
+    let mut ranks = [0; MARKABLE + 1];
     let mut open: u16 = 0;
-    for k in 0..MARKABLE {
-        if !table[k] {
+    for (k, marked) in table.iter().enumerate() {
+        if !*marked {
             positions[open as usize] = k as u16;
             open += 1;
         }
@@ -88,18 +78,15 @@ impl<S> LeftOut<'_, '_, S> {
         requires { position ≤ 4096 }
         ensures { result ≡ unmarked self.now.marks.now position }
     {
-        self.ranks[position] as usize
+        usize::from(self.ranks[position])
     }
 
     // The markable position that stands behind so many that remain, if there is one.
     fn kept_position(&self, before: usize) -> Option<usize>
         ensures { MatchOption result (unmarked self.now.marks.now 4096 ≤ before) (λ p. (marked self.now.marks.now p ≡ false) × (unmarked self.now.marks.now p ≡ before)) }
     {
-        if before < self.rank(MARKABLE) {
-            Some(self.positions[before] as usize)
-        } else {
-            None
-        }
+        let remaining = &self.positions[..self.rank(MARKABLE)];
+        remaining.get(before).map(|position| usize::from(*position))
     }
 }
 
@@ -121,6 +108,8 @@ impl<'a, 'm, S: Source> LeftOut<'a, 'm, S> {
 
 impl<'a, 'm, S: Source> Source for LeftOut<'a, 'm, S> {
     ghost scene = { λ l. left_out (S.scene l.below.now) l.marks.now };
+
+    ghost lawful = { λ l. left_lawful (S.scene l.below.now) l.marks.now (S.lawful l.below.now) };
 
     fn moments(&self) -> u16 {
         self.below.moments()

@@ -1,31 +1,35 @@
 // The twenty-two refusals.
-ghost use Rattle.std.specs.Prelude.{◌≡◌};
+ghost use Rattle.std.specs.Prelude.{◌≡◌, Some};
+ghost use Rattle.std.specs.Fmt.{decimal};
 ghost use Rattle.scene.specs.Refusals.{number_of};
 
+use std::fmt;
+
+// A refusal's number is the one by which people know it.
 #[derive(Clone, Copy, Debug, PartialEq, Eq)]
 pub enum Refusal {
-    SheetTooLong,
-    HeaderWrong,
-    LineMalformed,
-    CueNumberWrong,
-    ItemMalformed,
-    NotPointisable,
-    TitleNotInSheet,
-    TitleCountWrong,
-    TableMalformed,
-    OperandOutOfRange,
-    TitleUndeclared,
-    OutsideScene,
-    SetOutOfRange,
-    TooManyRows,
-    ListTooShort,
-    MomentCountWrong,
-    NoSuchRow,
-    PencilStands,
-    SlipMismatch,
-    BookFull,
-    NumbersSpent,
-    Clash,
+    SheetTooLong = 1,
+    HeaderWrong = 2,
+    LineMalformed = 3,
+    CueNumberWrong = 4,
+    ItemMalformed = 5,
+    NotPointisable = 6,
+    TitleNotInSheet = 7,
+    TitleCountWrong = 8,
+    TableMalformed = 9,
+    OperandOutOfRange = 10,
+    TitleUndeclared = 11,
+    OutsideScene = 12,
+    SetOutOfRange = 13,
+    TooManyRows = 14,
+    ListTooShort = 15,
+    MomentCountWrong = 16,
+    NoSuchRow = 17,
+    PencilStands = 18,
+    SlipMismatch = 19,
+    BookFull = 20,
+    NumbersSpent = 21,
+    Clash = 22,
 }
 
 impl Refusal {
@@ -33,29 +37,14 @@ impl Refusal {
     pub fn number(self) -> u8
         ensures { result ≡ number_of self }
     {
-        match self {
-            Refusal::SheetTooLong => 1,
-            Refusal::HeaderWrong => 2,
-            Refusal::LineMalformed => 3,
-            Refusal::CueNumberWrong => 4,
-            Refusal::ItemMalformed => 5,
-            Refusal::NotPointisable => 6,
-            Refusal::TitleNotInSheet => 7,
-            Refusal::TitleCountWrong => 8,
-            Refusal::TableMalformed => 9,
-            Refusal::OperandOutOfRange => 10,
-            Refusal::TitleUndeclared => 11,
-            Refusal::OutsideScene => 12,
-            Refusal::SetOutOfRange => 13,
-            Refusal::TooManyRows => 14,
-            Refusal::ListTooShort => 15,
-            Refusal::MomentCountWrong => 16,
-            Refusal::NoSuchRow => 17,
-            Refusal::PencilStands => 18,
-            Refusal::SlipMismatch => 19,
-            Refusal::BookFull => 20,
-            Refusal::NumbersSpent => 21,
-            Refusal::Clash => 22,
-        }
+        self as u8
+    }
+}
+
+impl fmt::Display for Refusal {
+    ghost output = { λ r. Some (decimal (number_of r)) };
+
+    fn fmt<W: fmt::Write>(&self, f: &mut fmt::Formatter<W>) -> fmt::Result {
+        write!(f, "{}", self.number())
     }
 }

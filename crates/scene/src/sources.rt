@@ -1,6 +1,7 @@
 // A source answers rows; what it means is a scene.
-ghost use Rattle.std.specs.Prelude.{◌≡◌, length};
-ghost use Rattle.scene.specs.Scenes.{Scene, RowIn};
+ghost use Rattle.std.specs.Prelude.{◌≡◌, length, drop};
+ghost use Rattle.std.specs.Iterator.{YieldsFirst, item_count};
+ghost use Rattle.scene.specs.Scenes.{Scene, Lawful};
 ghost use Rattle.std.specs.List.{slice_get};
 
 // The left moment, the set of relations, the right moment.
@@ -16,8 +17,7 @@ pub const MOST_ROWS: usize = 8192;
 pub const MOST_WORKING_ROWS: usize = 4096;
 
 pub trait Source {
-    // The moments and rows that the source stands for. A scene is lawful: 1 to 256 moments, at most
-    // 8,192 rows, which name its own moments and have sets from 1 to 7.
+    // The moments and rows that the source stands for.
     ghost scene: { Self → Scene };
 
     fn moments(&self) -> u16
@@ -29,15 +29,46 @@ pub trait Source {
     // The row at a position counted from 0; none at or past the end.
     fn row(&self, position: usize) -> Option<Row>
         ensures { result ≡ slice_get (scene self.now).rows position };
+
+    // 1 to 256 moments, and at most 8,192 rows, which name moments of the source and have sets from 1 to 7.
+    ghost lawful: { (s : Self) → Lawful (scene s) };
+
+    final fn rows(&self) -> Rows<'_, Self>
+        ensures source { result.source.now ≡ self.now }
+        ensures start { result.position ≡ 0 }
+    {
+        Rows {
+            source: self,
+            position: 0,
+        }
+    }
+}
+
+// The rows of a source, from a position on.
+#[derive_where(Clone, Copy)]
+pub struct Rows<'a, S> {
+    source: &'a S,
+    position: usize,
+}
+
+impl<'a, S: Source> Iterator for Rows<'a, S> {
+    type Item = Row;
+
+    ghost next_gives = { YieldsFirst (λ r. drop r.position (S.scene r.source.now).rows) };
+
+    ghost remaining = { item_count (λ r. drop r.position (S.scene r.source.now).rows) };
+
+    #[tactic(auto, using(crate::proofs::Positions::rest_past, crate::proofs::Positions::there_below))]
+    fn next(&mut self) -> Option<Row> {
+        let row = self.source.row(self.position)?;
+        self.position += 1;
+        Some(row)
+    }
 }
 
 // The row at a position of a list; none at or past its end.
 pub fn row_in(rows: &[Row], position: usize) -> Option<Row>
-    ensures { RowIn rows.now position result }
+    ensures { result ≡ slice_get rows.now position }
 {
-    if position < rows.len() {
-        Some(rows[position])
-    } else {
-        None
-    }
+    rows.get(position).copied()
 }

@@ -2,7 +2,7 @@ use Rattle.std.proofs.Common.{◌≡◌, ℕ, ◌+◌, ◌≤◌, true, List, �
 use Rattle.std.proofs.lemmas.List.{take_all}
 use Rattle.std.proofs.lemmas.Result.{err_from_is_err_and}
 use Rattle.algebra.specs.Placements.{Row}
-use Rattle.scene.specs.Checks.{First, Clear}
+use Rattle.scene.specs.Checks.{First}
 use Rattle.scene.specs.Layers.{row_by_row, of_count}
 use Rattle.scene.specs.Scenes.{all_fit}
 use Rattle.scene.proofs.Pile.{at_most, pile_whole}
@@ -34,13 +34,13 @@ returns-in_err-check_count g c =
     let e = c.in_err-check_count.field-0.0 in
     rw (p.1, p.2) (first_last s.moments (of_count (length s.rows) (length more)) more e
     (all_own c.moments-moments.result s.moments more c.loop-row.row-index c.moments-moments.ensures (omega arith) c.loop-row.invariant)
-    (subst (λ n. First (of_count n (length more)) e) c.count.ensures c.in_err-check_count.ensures))
+    c.in_err-check_count.ensures)
 
 pub invariant_of-result : goal.invariant_of-result
 invariant_of-result g c =
     let m = c.moments-moments.result in
     let more = c.args.more.now in
-    let l = (g.S.Source.scene c.args.below.now).lawful in
+    let l = g.met.S.Source.lawful c.args.below.now in
     let short = at_most 6 (length more) (λ h. c.in_ok-check_count.ensures.0.0 (inl h)) in
     record {
       few = omega (arith, l.few, c.moments-moments.ensures);
@@ -52,7 +52,7 @@ pub returns : goal.returns
 returns g c =
     let s = g.S.Source.scene c.args.below.now in
     let more = c.args.more.now in
-    let passed = subst (λ n. Clear (of_count n (length more))) c.count.ensures c.in_ok-check_count.ensures.0 in (
+    let passed = c.in_ok-check_count.ensures.0 in (
       all_clear s.moments (of_count (length s.rows) (length more)) more
           (all_own c.moments-moments.result s.moments more c.loop-row.row-index c.moments-moments.ensures (omega arith) c.loop-row.invariant) passed,
       (omega (arith, c.moments-moments.ensures), pile_whole s.rows more (at_most 8192 (length s.rows + length more) (λ h. passed.0 (inr h)))),
