@@ -4,3 +4,4 @@ pub mod RowByRow
 pub mod Marking
 pub mod Owned
 pub mod Firsts
+pub mod Rows

@@ -1,5 +1,5 @@
 -- What the reader answers once no command follows.
-use Rattle.std.proofs.Common.{◌≡◌, ℕ, ◌+◌, ◌<◌, ◌≤◌, true, leb, List, [], ◌∷◌, length, drop, Ok, Err, vec_items, Result, sym, refl, ap, ◌∙◌, subst, arith}
+use Rattle.std.proofs.Common.{◌≡◌, ℕ, ◌+◌, ◌<◌, ◌≤◌, true, leb, List, [], ◌∷◌, length, drop, Some, None, Option, MatchOption, ok_or, Ok, Err, vec_items, Result, sym, refl, ap, ◌∙◌, subst, arith}
 use Rattle.std.proofs.lemmas.Bool.{le-leb, lt-leb, cond-true, cond-false}
 use Rattle.std.specs.List.{flat_map}
 use Rattle.scene.specs.declared.refusals.Refusal.{Refusal}
@@ -15,6 +15,23 @@ use Rattle.table.specs.Readings.{Answer, found, refused, NoEnd, closed, malforme
 use Rattle.table.specs.Told.{Told, fault_at, Held, Commanded}
 use Rattle.table.proofs.Fitting.{stands_fit}
 use Rattle.table.proofs.OneAnswer.{one_answer}
+
+-- what is told of an answer that is known to be none, or some
+pub none_of : {V : Type 0} (P : Type 0) (Q : V → Type 0) (o : Option V) → o ≡ None → MatchOption o P Q → P
+none_of P Q o is told = subst (λ o. MatchOption o P Q) is told
+
+pub some_of : {V : Type 0} (P : Type 0) (Q : V → Type 0) (o : Option V) (v : V) → o ≡ Some v → MatchOption o P Q → Q v
+some_of P Q o v is told = subst (λ o. MatchOption o P Q) is told
+
+-- what `?` takes and hands out after `ok_or`
+module _ {V E : Type 0} (e : E) where
+  pub lacking : (o : Option V) (r : Result V E) (f : E) → r ≡ ok_or o e → r ≡ Err f → (o ≡ None) × (f ≡ e)
+  lacking None r f is was = (refl, cc)
+  lacking (Some v) r f is was = let z : ◌≡◌ {A = ℕ} 0 1 = cc in absurd (omega arith)
+
+  pub given : (o : Option V) (r : Result V E) (v : V) → r ≡ ok_or o e → r ≡ Ok v → o ≡ Some v
+  given None r v is was = let z : ◌≡◌ {A = ℕ} 0 1 = cc in absurd (omega arith)
+  given (Some w) r v is was = let same : w ≡ v = cc in ap Some same
 
 module _ (bytes : List ℕ) where
   pub only_told : (r : Result Table ReadError) → Told (Reads bytes) r → Told (Only bytes) r

@@ -1,11 +1,11 @@
 -- Commands read one after another.
-use Rattle.std.proofs.Common.{◌≡◌, ℕ, ◌+◌, ◌≤◌, Bool, false, ◌||◌, List, [], ◌∷◌, ◌++◌, length, get_or, drop, replicate, sym, refl, ap, ◌∙◌, subst, arith}
-use Rattle.std.proofs.lemmas.List.{append_assoc, append-nil, length-append, length-drop, length-replicate, drop-drop, flat_map_more}
+use Rattle.std.proofs.Common.{◌≡◌, ℕ, ◌+◌, ◌≤◌, Bool, false, ◌||◌, List, [], ◌∷◌, ◌++◌, length, get_or, drop, sym, refl, ap, ◌∙◌, subst, arith}
+use Rattle.std.proofs.lemmas.List.{append_assoc, append-nil, length-append, length-drop, drop-drop, flat_map_more}
 use Rattle.std.specs.List.{flat_map}
 use Rattle.algebra.specs.Placements.{Row}
 use Rattle.scene.specs.declared.refusals.Refusal.{Refusal}
 use Rattle.scene.specs.Checks.{First, Clear}
-use Rattle.scene.proofs.Marking.{no_marks, or_false, or_group}
+use Rattle.scene.proofs.Marking.{or_false, or_group}
 use Rattle.table.specs.declared.commands.Command.{Command}
 use Rattle.table.specs.Commands.{encoding, encoded, Begins, stated, declares, declared, of_command, Stand}
 use Rattle.table.specs.Readings.{refused, Begun, struck, Reads, stopped}
@@ -17,7 +17,6 @@ pub record Progress (bytes : List ℕ) (c place : ℕ) (known : List Bool) (rows
   pub within : place ≤ length bytes
   pub rows_are : rows ≡ flat_map stated ks
   pub marks : (t : ℕ) → get_or known t false ≡ declared ks t
-  pub size : length known ≡ 256
 
 declared_push : (ks : List Command) (k : Command) (t : ℕ) → declared (ks ++ k ∷ []) t ≡ (declared ks t || declares k t)
 declared_push [] k t = or_false (declares k t)
@@ -30,14 +29,13 @@ stand_push n done (l ∷ ks) k s h = (s.0, stand_push n (done ++ l ∷ []) ks k 
 joined_push : {X : Type 0} (f : Command → List X) (ks : List Command) (k : Command) → flat_map f ks ++ f k ≡ flat_map f (ks ++ k ∷ [])
 joined_push f ks k = flat_map_more f [] ks k
 
-pub no_progress : (bytes : List ℕ) (c : ℕ) → length bytes ≤ 32768 → bytes ≡ 16 ∷ c ∷ drop 2 bytes → Progress bytes c 2 (replicate 256 false) [] []
-no_progress bytes c short is = record {
+pub no_progress : (bytes : List ℕ) (c : ℕ) (known : List Bool) → length bytes ≤ 32768 → bytes ≡ 16 ∷ c ∷ drop 2 bytes → ((t : ℕ) → get_or known t false ≡ false) → Progress bytes c 2 known [] []
+no_progress bytes c known short is none = record {
   begun = record { short = short; cut = is; stand = tt };
   at = refl;
   within = omega (arith, ap length is);
   rows_are = refl;
-  marks = no_marks 256;
-  size = length-replicate 256 false;
+  marks = none;
 }
 
 module _ (bytes : List ℕ) (c place : ℕ) (known : List Bool) (rows : List Row) (ks : List Command) (p : Progress bytes c place known rows ks) (k : Command) (b : Begins (drop place bytes) k) where
@@ -50,9 +48,9 @@ module _ (bytes : List ℕ) (c place : ℕ) (known : List Bool) (rows : List Row
 
   -- it stands
   pub progress_more : (known' : List Bool) (rows' : List Row) → Clear (of_command (c + 1) (λ t. get_or known t false) k)
-      → length known' ≡ 256 → ((t : ℕ) → get_or known' t false ≡ (get_or known t false || declares k t)) → rows' ≡ rows ++ stated k
+      → ((t : ℕ) → get_or known' t false ≡ (get_or known t false || declares k t)) → rows' ≡ rows ++ stated k
       → Progress bytes c (place + length (encoding k)) known' rows' (ks ++ k ∷ [])
-  progress_more known' rows' h size marks add =
+  progress_more known' rows' h marks add =
       let same : (λ t. get_or known t false) ≡ declared ks = (λ j t. p.marks t j) in
       let rest : drop (place + length (encoding k)) bytes ≡ drop (length (encoding k)) (drop place bytes) = sym (drop-drop (length (encoding k)) place bytes) in
       let cut : bytes ≡ encoded c (ks ++ k ∷ []) ++ drop (place + length (encoding k)) bytes =
@@ -65,5 +63,4 @@ module _ (bytes : List ℕ) (c place : ℕ) (known : List Bool) (rows : List Row
         within = omega (arith, length-drop place bytes, ap length b, length-append (encoding k) (drop (length (encoding k)) (drop place bytes)), p.within);
         rows_are = add ∙ ap (λ rs. rs ++ stated k) p.rows_are ∙ joined_push stated ks k;
         marks = λ t. marks t ∙ ap (λ v. v || declares k t) (p.marks t) ∙ sym (declared_push ks k t);
-        size = size;
       }

@@ -6,7 +6,7 @@ use Rattle.std.proofs.lemmas.Option.{slice_get-get_or}
 use Rattle.std.proofs.lemmas.Bool.{and_parts, both_ways, le-leb, cond-true}
 use Rattle.std.specs.List.{flat_map, slice_get}
 use Rattle.algebra.specs.Placements.{Row}
-use Rattle.scene.specs.Scenes.{names, ranged, all_fit, Lawful}
+use Rattle.scene.specs.Scenes.{Scene, Lawful, names, ranged, all_fit}
 use Rattle.table.specs.declared.commands.Command.{Command}
 use Rattle.table.specs.Commands.{encoding, encoded, stated, Stand}
 use Rattle.table.specs.Readings.{found, Begun, closed, Reads, stopped, ended}
@@ -32,10 +32,10 @@ module _ (c : ℕ) where
       ∙ ap (λ zs. front ++ (ys ++ zs)) (drop-drop 4 at tail) ∙ sym (append_assoc front ys (drop (at + 4) tail))
 
   -- one turn: the rows so far, then what the list held
-  pub row_turn : (rows : List Row) (i : ℕ) (r : Row) (start out ys : List ℕ) → i < length rows → Some r ≡ slice_get rows i
+  one_turn : (rows : List Row) (i : ℕ) (r : Row) (start out ys : List ℕ) → i < length rows → Some r ≡ slice_get rows i
       → out ≡ encoded c (map row_command (take i rows)) ++ drop (2 + 4 * i) start → ys ≡ encoding (row_command r)
       → put_mid (2 + 4 * i) (2 + 4 * i + 4 - (2 + 4 * i)) out ys ≡ encoded c (map row_command (take (i + 1) rows)) ++ drop (2 + 4 * (i + 1)) start
-  row_turn rows i r start out ys l at inv is =
+  one_turn rows i r start out ys l at inv is =
       let k : 2 + 4 * i + 4 - (2 + 4 * i) ≡ 4 = omega arith in
       let front = encoded c (map row_command (take i rows)) in
       let size : length front ≡ 2 + 4 * i = rows_length (take i rows) ∙ ap (λ n. 2 + 4 * n) (length-take-le i rows (omega arith)) in
@@ -43,6 +43,14 @@ module _ (c : ℕ) where
       let past : 2 + 4 * i + 4 ≡ 2 + 4 * (i + 1) = omega arith in
       (λ j. put_mid (2 + 4 * i) (k j) (inv j) ys) ∙ put_row front start ys (2 + 4 * i) size
       ∙ (λ j. (front ++ is j) ++ drop (past j) start) ∙ ap (λ zs. zs ++ drop (2 + 4 * (i + 1)) start) (sym (encoded_more rows i r l is_r))
+
+  -- the same where the position is counted otherwise
+  pub row_turn : (rows : List Row) (i k n : ℕ) (r : Row) (start out ys : List ℕ) → (i ≡ k) × (k < length rows) × (Some r ≡ slice_get rows k) → n ≡ k + 1
+      → out ≡ encoded c (map row_command (take k rows)) ++ drop (2 + 4 * k) start → ys ≡ encoding (row_command r)
+      → put_mid (2 + 4 * i) (2 + 4 * i + 4 - (2 + 4 * i)) out ys ≡ encoded c (map row_command (take n rows)) ++ drop (2 + 4 * n) start
+  row_turn rows i k n r start out ys t next inv is =
+      (λ j. put_mid (2 + 4 * t.0 j) (2 + 4 * t.0 j + 4 - (2 + 4 * t.0 j)) out ys) ∙ one_turn rows k r start out ys t.1 t.2 inv is
+      ∙ sym (λ j. encoded c (map row_command (take (next j) rows)) ++ drop (2 + 4 * next j) start)
 
   -- the end after the last row
   pub end_put : (rows : List Row) (start out xs : List ℕ) (n : ℕ) → n ≡ length rows → 3 + 4 * n ≤ length xs
@@ -81,8 +89,10 @@ stand_rows n done (r ∷ rs) h =
     let p = and_parts (names n r && ranged r) (all_fit n rs) h in
     (((λ e. both_ways (names n r && ranged r) e p.0), tt), stand_rows n (done ++ row_command r ∷ []) rs p.1)
 
-pub reads_back : (n : ℕ) (rows : List Row) → Lawful n rows → length rows ≤ 4096 → Reads (written n rows) (found n rows)
-reads_back n rows law few =
+pub reads_back : (s : Scene) → Lawful s → length s.rows ≤ 4096 → Reads (written s.moments s.rows) (found s.moments s.rows)
+reads_back s law few =
+    let n = s.moments in
+    let rows = s.rows in
     let c = n - 1 in
     let e : c + 1 ≡ n = omega (arith, law.some) in
     let ks = map row_command rows in

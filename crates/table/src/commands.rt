@@ -37,24 +37,20 @@ impl Command {
     pub fn first_of(bytes: &[u8]) -> Option<Command>
         ensures { MatchOption result (NoCommand bytes.now) (Begins bytes.now) }
     {
-        if let [ROW, left, set, right, ..] = bytes {
-            return Some(Command::Row {
+        match bytes {
+            [ROW, left, set, right, ..] => Some(Command::Row {
                 left: *left,
                 set: *set,
                 right: *right,
-            });
-        }
-        if let [TITLE, title, ..] = bytes {
-            return Some(Command::Title { title: *title });
-        }
-        if let [RULE, from, high, low, to, ..] = bytes {
-            return Some(Command::Rule {
+            }),
+            [TITLE, title, ..] => Some(Command::Title { title: *title }),
+            [RULE, from, high, low, to, ..] => Some(Command::Rule {
                 from: *from,
                 high: *high,
                 low: *low,
                 to: *to,
-            });
+            }),
+            _ => None,
         }
-        None
     }
 }

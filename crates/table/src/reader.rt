@@ -1,18 +1,19 @@
 // The reader of house tables.
-ghost use Rattle.std.specs.Prelude.{◌≡◌, ℕ, ◌≤◌, false, ◌||◌, ◌∷◌, ◌++◌, length, drop, is_ok, if◌then◌else◌, MatchOption, slice_index_or};
+ghost use Rattle.std.specs.Prelude.{◌≡◌, ◌≤◌, ◌∷◌, ◌++◌, length, drop, MatchOption, Some};
 ghost use Rattle.std.specs.Result.{result_map_both};
 ghost use Rattle.table.specs.declared.reader.ReadError.TheVariants.{NoMemory};
-ghost use Rattle.table.specs.Commands.{declares};
+ghost use Rattle.std.specs.Fmt.{decimal};
+ghost use Rattle.scene.specs.Refusals.{number_of};
 ghost use Rattle.table.specs.Readings.{NoStart, NoEnd, EndBefore, Reads, Only};
-ghost use Rattle.table.specs.Statements.{rows_in};
 ghost use Rattle.table.specs.Told.{Told, Commanded, same, fault_at};
 
 use crate::commands::{Command, END, START};
-use crate::stating::{Statement, rows_stated};
+use crate::stating::Context;
 use crate::tables::Table;
 use scene::refusals::Refusal;
 use scene::sources::{MOST_WORKING_ROWS, Row};
 use std::alloc::{AllocError, Global};
+use std::fmt;
 
 // The most bytes in a table.
 const MOST_BYTES: usize = 32768;
@@ -22,6 +23,14 @@ const MOST_BYTES: usize = 32768;
 pub struct TableFault {
     pub refusal: Refusal,
     pub place: usize,
+}
+
+impl fmt::Display for TableFault {
+    ghost output = { λ f. Some (decimal (number_of f.refusal) ++ 9 ∷ decimal f.place) };
+
+    fn fmt<W: fmt::Write>(&self, f: &mut fmt::Formatter<W>) -> fmt::Result {
+        write!(f, "{}\t{}", self.refusal, self.place)
+    }
 }
 
 #[derive(Clone, Copy, Debug)]
@@ -49,32 +58,7 @@ fn refuse(refusal: Refusal, place: usize) -> ReadError
 fn at_place<T>(place: usize, outcome: Result<T, Refusal>) -> Result<T, ReadError>
     ensures { result ≡ result_map_both same (fault_at place) outcome }
 {
-    match outcome {
-        Ok(value) => Ok(value),
-        Err(refusal) => Err(refuse(refusal, place)),
-    }
-}
-
-// The rows with those of a statement after them.
-fn add_rows(rows: &mut Vec<Row>, statement: Statement) -> Result<(), AllocError>
-    ensures { rows.new.items ≡ (if is_ok result then rows.old.items ++ rows_in statement else rows.old.items) }
-{
-    match statement {
-        Statement::One(row) => {
-            rows.push(row)?;
-            Ok(())
-        }
-        Statement::Four(four) => rows.extend_from_slice(&four),
-    }
-}
-
-// The titles known, with the one that the command declares, if it does.
-fn mark_declared(known: &mut [bool; 256], command: Command)
-    ensures { (t : ℕ) → slice_index_or known.new t false ≡ (slice_index_or known.old t false || declares command t) }
-{
-    if let Command::Title { title } = command {
-        known[title as usize] = true;
-    }
+    outcome.map_err(|refusal| refuse(refusal, place))
 }
 
 // Where the commands stop, and the rows that they state.
@@ -88,14 +72,13 @@ fn read_commands(heap: Global, bytes: &[u8], last: u8) -> Result<Stop, ReadError
     requires { (length bytes.now ≤ 32768) × (bytes.now ≡ 16 ∷ last ∷ drop 2 bytes.now) }
     ensures { Commanded bytes.now last result }
 {
-    let moments = u16::from(last) + 1;
-    let mut known = [false; 256];
+    let mut context = Context::new(u16::from(last) + 1);
     let mut rows = Vec::new(heap);
     let mut place = 2;
     while let Some(command) = Command::first_of(&bytes[place..]) {
-        let statement = at_place(place, rows_stated(moments, &known, command))?;
-        add_rows(&mut rows, statement)?;
-        mark_declared(&mut known, command);
+        let statement = at_place(place, context.rows_stated(command))?;
+        rows.extend_from_slice(statement.rows())?;
+        context.declare(command);
         place += command.size();
     }
     Ok(Stop { rows, place })
@@ -121,21 +104,16 @@ fn after_end(bytes: &[u8]) -> Option<usize>
     Some(after.len())
 }
 
-// The table whose bytes these are.
-pub fn read_table(heap: Global, bytes: &[u8]) -> Result<Table, ReadError>
-    ensures reads { Told (Reads bytes.now) result }
-    ensures only { Told (Only bytes.now) result }
+// The table whose bytes these are, or why they are none.
+fn read(heap: Global, bytes: &[u8]) -> Result<Table, ReadError>
+    ensures { Told (Reads bytes.now) result }
 {
     if bytes.len() > MOST_BYTES {
         return Err(refuse(Refusal::TableMalformed, 0));
     }
-    let Some(last) = start_of(bytes) else {
-        return Err(refuse(Refusal::TableMalformed, 0));
-    };
+    let last = start_of(bytes).ok_or(refuse(Refusal::TableMalformed, 0))?;
     let Stop { rows, place } = read_commands(heap, bytes, last)?;
-    let Some(after) = after_end(&bytes[place..]) else {
-        return Err(refuse(Refusal::TableMalformed, place));
-    };
+    let after = after_end(&bytes[place..]).ok_or(refuse(Refusal::TableMalformed, place))?;
     if after > 0 {
         return Err(refuse(Refusal::TableMalformed, place + 1));
     }
@@ -146,4 +124,12 @@ pub fn read_table(heap: Global, bytes: &[u8]) -> Result<Table, ReadError>
         moments: u16::from(last) + 1,
         rows,
     })
+}
+
+// The table whose bytes these are: no other answer fits them.
+pub fn read_table(heap: Global, bytes: &[u8]) -> Result<Table, ReadError>
+    ensures reads { Told (Reads bytes.now) result }
+    ensures only { Told (Only bytes.now) result }
+{
+    read(heap, bytes)
 }

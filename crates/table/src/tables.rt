@@ -1,7 +1,7 @@
 // A house table that was read: a source.
 ghost use Rattle.std.specs.Prelude.{◌≡◌, ◌≤◌, true, length};
 ghost use Rattle.scene.specs.Scenes.{all_fit};
-ghost use Rattle.table.specs.Tables.{tabled};
+ghost use Rattle.table.specs.Tables.{tabled, tabled_lawful};
 
 use scene::sources::{Row, Source, row_in};
 
@@ -16,7 +16,9 @@ pub struct Table {
 }
 
 impl Source for Table {
-    ghost scene = { λ t. tabled t.moments t.rows.items t.some t.few t.short t.own };
+    ghost scene = { λ t. tabled t.moments t.rows.items };
+
+    ghost lawful = { λ t. tabled_lawful t.moments t.rows.items t.some t.few t.short t.own };
 
     fn moments(&self) -> u16 {
         self.moments

@@ -51,10 +51,7 @@ pub fn write_table<S: Source>(source: &S, out: &mut [u8]) -> Result<usize, Refus
     let size = size_within(count, out.len())?;
     out[0] = START;
     out[1] = (source.moments() - 1) as u8;
-    for i in 0..count {
-        let Some(row) = source.row(i) else {
-            unreachable()
-        };
+    for (i, row) in source.rows().enumerate() {
         let at = 2 + 4 * i;
         out[at..at + 4].copy_from_slice(&row_bytes(row));
     }

@@ -15,7 +15,8 @@ use Rattle.table.proofs.reader.read_commands.Goals as goal
 
 pub loop-command-init : goal.loop-command-init
 loop-command-init c =
-    ([], subst (λ rs. Progress c.args.bytes.now c.args.last 2 _ rs []) (sym c.new-rows.ensures.items) (no_progress c.args.bytes.now c.args.last c.requires.0 c.requires.1))
+    let none = no_progress c.args.bytes.now c.args.last c.new-context.result.declared c.requires.0 c.requires.1 c.new-context.ensures.none in
+    (omega (arith, c.new-context.ensures.moments, c.from.ensures), [], subst (λ rs. Progress c.args.bytes.now c.args.last 2 c.new-context.result.declared rs []) (sym c.new-rows.ensures.items) none)
 
 -- a refusal that gained its place is that of the first check
 module _ (place : ℕ) (cs : List (Check Refusal)) (Good : Statement → Type 0) where
@@ -33,13 +34,13 @@ returns-in_err-statement c =
     let bytes = c.args.bytes.now in
     let l = c.loop-command in
     let k = c.in-Some.command in
-    let known : ℕ → Bool = λ t. get_or l.known t false in
+    let known : ℕ → Bool = λ t. get_or l.context.declared t false in
     let Good : Statement → Type 0 = λ s. rows_in s ≡ stated k in
     let b = subst (λ bs. Begins bs k) (take_rest bytes l.place) c.in-Some.ensures in
-    let a = subst (λ n. Answers (of_command (n + 1) known k) Good c.rows_stated.result) c.from-moments.ensures c.rows_stated.ensures in
+    let a = subst (λ n. Answers (of_command n known k) Good c.rows_stated.result) l.invariant.0 c.rows_stated.ensures in
     let t = told_refused l.place (of_command (c.args.last + 1) known k) Good c.rows_stated.result c.in_err-statement.field-0.0 a c.in_err-statement.ensures in
     rw p.1 (subst (λ e. Commanded bytes c.args.last (Err e)) (t.1 ∙ sym p.2)
-    (refused_here bytes c.args.last l.place l.known (vec_items l.rows) l.invariant.0 l.invariant.1 k b t.0 t.2))
+    (refused_here bytes c.args.last l.place l.context.declared (vec_items l.rows) l.invariant.1 l.invariant.2 k b t.0 t.2))
 
 pub loop-command-preserved : goal.loop-command-preserved
 loop-command-preserved c =
@@ -47,22 +48,23 @@ loop-command-preserved c =
     let l = c.loop-command in
     let k = c.in-Some.command in
     let s = c.in_ok-statement.statement in
-    let known : ℕ → Bool = λ t. get_or l.known t false in
+    let known : ℕ → Bool = λ t. get_or l.context.declared t false in
     let Good : Statement → Type 0 = λ s. rows_in s ≡ stated k in
     let b = subst (λ bs. Begins bs k) (take_rest bytes l.place) c.in-Some.ensures in
-    let a = subst (λ n. Answers (of_command (n + 1) known k) Good c.rows_stated.result) c.from-moments.ensures c.rows_stated.ensures in
+    let a = subst (λ n. Answers (of_command n known k) Good c.rows_stated.result) l.invariant.0 c.rows_stated.ensures in
     let t = told_good l.place (of_command (c.args.last + 1) known k) Good c.rows_stated.result s a c.in_ok-statement.ensures in
-    let rows : vec_items c.add_rows.new.rows ≡ vec_items l.rows ++ rows_in s = pushed (rows_in s) refl c.in_ok-add_rows.was c.add_rows.ensures in (
-      l.invariant.0 ++ k ∷ [],
-      subst (λ n. Progress bytes c.args.last (l.place + n) c.mark_declared.new.known (vec_items c.add_rows.new.rows) (l.invariant.0 ++ k ∷ [])) (sym c.size-place.ensures)
-          (progress_more bytes c.args.last l.place l.known (vec_items l.rows) l.invariant.0 l.invariant.1 k b c.mark_declared.new.known (vec_items c.add_rows.new.rows)
-          t.0 c.mark_declared.array_long c.mark_declared.ensures (rows ∙ ap (λ rs. vec_items l.rows ++ rs) t.1)),
+    let rows : vec_items c.extend_from_slice.new.self ≡ vec_items l.rows ++ rows_in s = pushed c.rows.result.now refl c.in_ok-extend_from_slice.was c.extend_from_slice.ensures.items ∙ ap (λ rs. vec_items l.rows ++ rs) c.rows.ensures in (
+      c.declare.ensures.moments ∙ l.invariant.0,
+      l.invariant.1 ++ k ∷ [],
+      subst (λ n. Progress bytes c.args.last (l.place + n) c.declare.new.self.declared (vec_items c.extend_from_slice.new.self) (l.invariant.1 ++ k ∷ [])) (sym c.size-place.ensures)
+          (progress_more bytes c.args.last l.place l.context.declared (vec_items l.rows) l.invariant.1 l.invariant.2 k b c.declare.new.self.declared (vec_items c.extend_from_slice.new.self)
+          t.0 c.declare.ensures.declared (rows ∙ ap (λ rs. vec_items l.rows ++ rs) t.1)),
     )
 
 pub returns : goal.returns
 returns c =
-    let p = c.loop-command.invariant.1 in (
-      c.loop-command.invariant.0,
+    let p = c.loop-command.invariant.2 in (
+      c.loop-command.invariant.1,
       record {
         begun = p.begun;
         at = p.at;

@@ -1,17 +1,13 @@
 use Rattle.std.proofs.Common.{◌≡◌, ◌+◌, ◌-◌, ◌*◌, ◌∷◌, ◌++◌, map, length, take, drop, set, sym, ap, ◌∙◌, subst, arith}
-use Rattle.std.proofs.lemmas.List.{take_all, take_at}
+use Rattle.std.proofs.lemmas.List.{take_all, take_at, length_push}
 use Rattle.scene.proofs.Owned.{own_row}
 use Rattle.scene.proofs.Pile.{at_most}
-use Rattle.scene.proofs.Positions.{nth_there}
+use Rattle.scene.proofs.Rows.{all_numbered, numbered_turn, numbered_end}
 use Rattle.table.specs.Commands.{encoded}
 use Rattle.table.specs.Readings.{Reads, found}
 use Rattle.table.specs.Writings.{row_command, written}
 use Rattle.table.proofs.Writing.{row_turn, end_put, written_size, header_put, header_leaves, reads_back}
 use Rattle.table.proofs.writer.write_table.Goals as goal
-
-pub unreachable-requires : goal.unreachable-requires
-unreachable-requires g c =
-    nth_there (g.S.Source.scene c.args.source.now).rows c.loop-i.i (omega (arith, c.in_ok-count.ensures.1)) (sym c.in_default.is ∙ c.row.ensures)
 
 pub loop-i-init : goal.loop-i-init
 loop-i-init g c =
@@ -23,13 +19,18 @@ loop-i-init g c =
 pub row_bytes-requires : goal.row_bytes-requires
 row_bytes-requires g c =
     let s = g.S.Source.scene c.args.source.now in
-    let o = own_row s.moments s.rows c.loop-i.i c.in-Some.row s.lawful.own (sym c.in-Some.is ∙ c.row.ensures) in
-    (omega (arith, s.lawful.few, o.left), omega (arith, s.lawful.few, o.right))
+    let law = g.met.S.Source.lawful c.args.source.now in
+    let t = numbered_turn g.S.Source.scene c.args.source.now (all_numbered g.S.Source.scene c.args.source.now (cc) (cc) (cc))
+    c.loop-i.yielded c.loop-i.i-iterator c.loop-i.yielded_by _ c.next.new.self c.in-Some.i c.in-Some.row c.in-Some.is c.next.ensures.steps in
+    let o = own_row s.moments s.rows (length c.loop-i.yielded) c.in-Some.row law.own t.2 in
+    (omega (arith, law.few, o.left), omega (arith, law.few, o.right))
 
 pub loop-i-preserved : goal.loop-i-preserved
 loop-i-preserved g c =
     let s = g.S.Source.scene c.args.source.now in
-    row_turn (s.moments - 1) s.rows c.loop-i.i c.in-Some.row _ c.loop-i.out c.copy_from_slice.new.self (omega (arith, c.in_ok-count.ensures.1)) (sym c.in-Some.is ∙ c.row.ensures)
+    let t = numbered_turn g.S.Source.scene c.args.source.now (all_numbered g.S.Source.scene c.args.source.now (cc) (cc) (cc))
+    c.loop-i.yielded c.loop-i.i-iterator c.loop-i.yielded_by _ c.next.new.self c.in-Some.i c.in-Some.row c.in-Some.is c.next.ensures.steps in
+    row_turn (s.moments - 1) s.rows c.in-Some.i (length c.loop-i.yielded) _ c.in-Some.row _ c.loop-i.out c.copy_from_slice.new.self t (length_push c.loop-i.yielded (c.in-Some.i, c.in-Some.row))
     c.loop-i.invariant (c.copy_from_slice.ensures.after ∙ c.row_bytes.ensures)
 
 pub returns : goal.returns
@@ -41,7 +42,8 @@ returns g c =
     let sized = c.in_ok-size.ensures in
     let few = at_most 4096 (length s.rows) counted.0.0 in
     let room = at_most (length xs) (3 + 4 * n) sized.0.0 in
-    let done : c.loop-i.i ≡ n = omega arith in
+    let end = numbered_end g.S.Source.scene c.args.source.now (all_numbered g.S.Source.scene c.args.source.now (cc) (cc) (cc)) c.loop-i.yielded c.loop-i.i-iterator c.loop-i.yielded_by _ c.next.new.self c.in-None.is c.next.ensures.steps in
+    let done : length c.loop-i.yielded ≡ n = end ∙ sym counted.1 in
     let start = set (set xs 0 16) 1 (c.moments.result - 1) in
     let inv : c.loop-i.out ≡ encoded (s.moments - 1) (map row_command s.rows) ++ drop (2 + 4 * n) start =
     c.loop-i.invariant ∙ (λ j. encoded (s.moments - 1) (map row_command (take (done j) s.rows)) ++ drop (2 + 4 * done j) start)
@@ -52,5 +54,5 @@ returns g c =
       size = ((counted.0.0, ((λ h. omega (arith, counted.1)), tt)), (sized.1 ∙ ap (λ m. 3 + 4 * m) counted.1, size));
       bytes = exit;
       back = subst (λ bs. Reads bs (found s.moments s.rows)) (sym (ap (take c.in_ok-size.size) exit ∙ take_at (written s.moments s.rows) _ c.in_ok-size.size (sym size)))
-          (reads_back s.moments s.rows s.lawful few);
+          (reads_back s (g.met.S.Source.lawful c.args.source.now) few);
     }
