@@ -6,7 +6,7 @@ use Rattle.algebra.specs.Placements.{Row}
 use Rattle.scene.specs.declared.refusals.Refusal.{Refusal}
 use Rattle.scene.specs.declared.refusals.Refusal.TheVariants.{MomentCountWrong}
 use Rattle.scene.specs.Checks.{Check}
-use Rattle.scene.specs.Scenes.{Scene, names, ranged, all_fit}
+use Rattle.scene.specs.Scenes.{Scene, Lawful, names, ranged, all_fit}
 
 -- n rows, of which the first has the left moment i
 unfoldable pub links : ℕ → ℕ → List Row
@@ -28,13 +28,11 @@ fit_links m i (suc n) h =
     (fit_links m (suc i) n (omega arith))
 
 -- the scene of a chain of n moments
-abbrev pub chained : (n : ℕ) → 1 ≤ n → n ≤ 256 → Scene
-chained n some few =
-    record {
-      moments = n;
-      rows = links 0 (n - 1);
-      lawful = record { some = some; few = few; short = omega (arith, length_links 0 (n - 1)); own = fit_links n 0 (n - 1) (omega arith) };
-    }
+abbrev pub chained : ℕ → Scene
+chained n = record { moments = n; rows = links 0 (n - 1) }
+
+pub chained_lawful : (n : ℕ) → 1 ≤ n → n ≤ 256 → Lawful (chained n)
+chained_lawful n some few = record { some = some; few = few; short = omega (arith, length_links 0 (n - 1)); own = fit_links n 0 (n - 1) (omega arith) }
 
 -- what the making of a chain checks
 abbrev pub chaining : ℕ → List (Check Refusal)

@@ -3,7 +3,7 @@
 
 ghost use Rattle.std.specs.Prelude.{◌≡◌, ◌+◌, ◌-◌, ◌≤◌};
 ghost use Rattle.scene.specs.Checks.{Answers};
-ghost use Rattle.chain.specs.Links.{chained, chaining};
+ghost use Rattle.chain.specs.Links.{chained, chained_lawful, chaining};
 
 use scene::refusals::Refusal;
 use scene::sources::{MOST_MOMENTS, Row, Source};
@@ -41,7 +41,9 @@ fn link(left: u8) -> Row
 }
 
 impl Source for Chain {
-    ghost scene = { λ c. chained c.moments c.some c.few };
+    ghost scene = { λ c. chained c.moments };
+
+    ghost lawful = { λ c. chained_lawful c.moments c.some c.few };
 
     fn moments(&self) -> u16 {
         self.moments
@@ -52,6 +54,7 @@ impl Source for Chain {
     }
 
     fn row(&self, position: usize) -> Option<Row> {
+        // Not by `then_some`: the position is known to be a byte only where the test passes.
         if position < self.last() as usize {
             Some(link(position as u8))
         } else {

@@ -1,6 +1,5 @@
 // Rows and bytes as text.
-ghost use Rattle.std.specs.Prelude.{◌≡◌, ◌<◌, false, ◌++◌, IfOk, string_bytes, OnOk};
-ghost use Rattle.std.specs.Fmt.{digit_glyph};
+ghost use Rattle.std.specs.Prelude.{◌≡◌, IfOk, string_bytes, OnOk};
 ghost use Rattle.std.specs.List.{flat_map};
 ghost use Rattle.report.specs.Lines.{with_relation, words, row_line, lines, hexed};
 
@@ -15,10 +14,8 @@ fn add_relation(text: &mut String, set: u8, relation: Relation) -> Result<(), Al
     if !relation.is_in(set) {
         return Ok(());
     }
-    if text.len() > 0 {
-        text.push_str(" or ")?;
-    }
-    text.push_str(relation.word())
+    let between = if text.is_empty() { "" } else { " or " };
+    write!(text, "{between}{relation}")
 }
 
 // The relations of a set in words.
@@ -47,44 +44,16 @@ pub fn listing<S: Source>(heap: Global, source: &S) -> Result<String, AllocError
 {
     let moments = source.moments();
     let mut text = format!(in heap; "moments\t{moments}\n")?;
-    for position in 0..source.count() {
-        let Some(row) = source.row(position) else {
-            unreachable()
-        };
+    for (position, row) in source.rows().enumerate() {
         let line = row_text(heap, position, row)?;
         text.push_str(line.as_str())?;
     }
     Ok(text)
 }
 
-// The digit of a number below 16.
-fn hex_digit(value: u8) -> char
-    requires { value < 16 }
-    ensures { (result ≡ digit_glyph false value) × (result < 128) }
-{
-    if value < 10 {
-        (b'0' + value) as char
-    } else {
-        (b'a' + (value - 10)) as char
-    }
-}
-
-// The text with the byte's two digits after it.
-fn add_byte(text: &mut String, byte: u8) -> Result<(), AllocError>
-    ensures { OnOk result (string_bytes text.new ≡ string_bytes text.old ++ hexed byte) }
-{
-    text.push(hex_digit(byte / 16))?;
-    text.push(hex_digit(byte % 16))?;
-    Ok(())
-}
-
 // The bytes in lower-case hexadecimal, two digits each.
 pub fn hex(heap: Global, bytes: &[u8]) -> Result<String, AllocError>
     ensures { IfOk result (λ s. string_bytes s ≡ flat_map hexed bytes.now) }
 {
-    let mut text = String::new(heap);
-    for byte in bytes {
-        add_byte(&mut text, *byte)?;
-    }
-    Ok(text)
+    hex::encode(heap, bytes)
 }

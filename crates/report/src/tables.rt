@@ -16,9 +16,7 @@ const MOST_WRITTEN: usize = 3 + 4 * MOST_WORKING_ROWS;
 fn text_of_fault(heap: Global, fault: TableFault) -> Result<String, AllocError>
     ensures { IfOk result (λ s. string_bytes s ≡ refused_text fault.refusal fault.place) }
 {
-    let number = fault.refusal.number();
-    let place = fault.place;
-    format!(in heap; "refused\t{number}\t{place}\n")
+    format!(in heap; "refused\t{fault}\n")
 }
 
 // The moments and rows of a table, and its bytes as they are written.
@@ -26,11 +24,9 @@ fn text_of_table(heap: Global, table: &Table) -> Result<String, AllocError>
     ensures { IfOk result (λ s. string_bytes s ≡ found_text table.now.moments table.now.rows.items) }
 {
     let mut out = [0; MOST_WRITTEN];
-    let Ok(size) = write_table(table, &mut out) else {
-        unreachable()
-    };
+    let size = write_table(table, &mut out).unwrap();
     let rows = listing(heap, table)?;
-    let bytes = hex(heap, &out[0..size])?;
+    let bytes = hex(heap, &out[..size])?;
     format!(in heap; "{rows}written\t{size}\t{bytes}\n")
 }
 
