@@ -17,24 +17,18 @@ fn is_shown(set: u16, pair: Pair, sign: Relation) -> bool
         .any(|t| t.is_in(set) && t.sign(pair) == sign)
 }
 
-// What a sign adds to the pair's set.
-fn share_of(set: u16, pair: Pair, sign: Relation) -> u8
-    ensures { result ≡ share set pair sign }
-{
-    if is_shown(set, pair, sign) {
-        sign.value()
-    } else {
-        0
-    }
-}
-
 // The signs that the members of the set have at the pair.
 fn set_at(set: u16, pair: Pair) -> u8
     ensures { result ≡ sign_set set pair }
 {
-    share_of(set, pair, Relation::Before)
-        + share_of(set, pair, Relation::Together)
-        + share_of(set, pair, Relation::After)
+    let share = |sign: Relation| {
+        if is_shown(set, pair, sign) {
+            sign.value()
+        } else {
+            0
+        }
+    };
+    share(Relation::Before) + share(Relation::Together) + share(Relation::After)
 }
 
 // The four sets of a title rule, in the sequence of the pairs.

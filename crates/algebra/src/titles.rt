@@ -109,7 +109,7 @@ impl TitleRelation {
         self.symbol().as_bytes() == bytes
     }
 
-    // The relation that has this symbol.
+    // The relation that has this symbol. Of other bytes there is no more to say, so no error type is needed.
     pub fn of_symbol(bytes: &[u8]) -> Option<TitleRelation>
         ensures { MatchOption result (NoSymbol bytes.now) (λ t. bytes.now ≡ (facts t).symbol) }
     {

@@ -2,7 +2,7 @@
 // order, and the place and leader of each moment.
 #![tactic(auto)]
 
-ghost use Rattle.std.specs.Prelude.{◌^◌, ◌<◌};
+ghost use Rattle.std.specs.Prelude.{◌<◌};
 
 use graph::consistency::consistent;
 use graph::order::{Entry, write_order};
@@ -19,9 +19,7 @@ const BLANK: Entry = Entry {
 
 fn show_entries(rt: &HostRuntime, entries: &[Entry]) -> io::Result<()> {
     for entry in entries {
-        let place = entry.place;
-        let leader = entry.leader;
-        print!(rt; "\t{place}.{leader}")?;
+        print!(rt; "\t{}.{}", entry.place, entry.leader)?;
     }
     println!(rt; "")
 }
@@ -34,10 +32,7 @@ fn show_table(rt: &HostRuntime, name: &str, table: &Table, length: usize) -> io:
     let entries = &mut entries[..length.min(260)];
     match write_order(table, entries) {
         Ok(places) => print!(rt; "\tplaces\t{places}")?,
-        Err(refusal) => {
-            let number = refusal.number();
-            print!(rt; "\trefused\t{number}")?;
-        }
+        Err(refusal) => print!(rt; "\trefused\t{refusal}")?,
     }
     show_entries(rt, entries)
 }
@@ -57,52 +52,74 @@ fn show(rt: &HostRuntime, name: &str, last: u8, rows: &[Row], length: usize) -> 
     }
 }
 
+fn show_all(rt: &HostRuntime, cases: &[(&str, u8, &[Row], usize)]) -> io::Result<()> {
+    for (name, last, rows, length) in cases {
+        show(rt, name, *last, rows, *length)?;
+    }
+    Ok(())
+}
+
 // Rows of few moments, worked by hand.
 fn show_small(rt: &HostRuntime) -> io::Result<()> {
-    show(rt, "no rows", 2, &[], 3)?;
-    show(rt, "weak both ways", 1, &[(0, 3, 1), (1, 3, 0)], 2)?;
-    let diamond = [(0, 3, 1), (0, 3, 2), (1, 3, 3), (2, 3, 3), (1, 5, 2)];
-    show(rt, "diamond", 3, &diamond, 4)?;
-    show(rt, "before itself", 0, &[(0, 1, 0)], 1)?;
-    show(rt, "apart from itself", 0, &[(0, 5, 0)], 1)?;
-    show(
-        rt,
-        "together or apart from itself",
-        0,
-        &[(0, 7, 0), (0, 2, 0)],
-        1,
-    )?;
-    show(rt, "weak ring", 2, &[(0, 3, 1), (1, 3, 2), (2, 3, 0)], 3)?;
-    let apart = [(0, 3, 1), (1, 3, 2), (2, 3, 0), (0, 5, 2)];
-    show(rt, "weak ring with two apart", 2, &apart, 3)?;
-    let strict = [(0, 3, 1), (1, 1, 2), (2, 3, 0)];
-    show(rt, "ring with one strict", 2, &strict, 3)?;
-    show(rt, "falling", 2, &[(2, 1, 1), (1, 1, 0)], 3)?;
-    show(
-        rt,
-        "after and together or after",
-        2,
-        &[(0, 4, 1), (1, 6, 2)],
-        3,
-    )?;
-    show(
-        rt,
-        "two groups of two",
-        3,
-        &[(1, 2, 3), (2, 2, 0), (3, 1, 0)],
-        4,
-    )?;
-    show(rt, "any relation", 2, &[(0, 7, 1), (1, 7, 2), (2, 7, 0)], 3)?;
-    show(rt, "apart", 2, &[(0, 5, 1), (1, 5, 2), (2, 5, 0)], 3)
+    let cases: [(&str, u8, &[Row], usize); 14] = [
+        ("no rows", 2, &[], 3),
+        ("weak both ways", 1, &[(0, 3, 1), (1, 3, 0)], 2),
+        (
+            "diamond",
+            3,
+            &[(0, 3, 1), (0, 3, 2), (1, 3, 3), (2, 3, 3), (1, 5, 2)],
+            4,
+        ),
+        ("before itself", 0, &[(0, 1, 0)], 1),
+        ("apart from itself", 0, &[(0, 5, 0)], 1),
+        (
+            "together or apart from itself",
+            0,
+            &[(0, 7, 0), (0, 2, 0)],
+            1,
+        ),
+        ("weak ring", 2, &[(0, 3, 1), (1, 3, 2), (2, 3, 0)], 3),
+        (
+            "weak ring with two apart",
+            2,
+            &[(0, 3, 1), (1, 3, 2), (2, 3, 0), (0, 5, 2)],
+            3,
+        ),
+        (
+            "ring with one strict",
+            2,
+            &[(0, 3, 1), (1, 1, 2), (2, 3, 0)],
+            3,
+        ),
+        ("falling", 2, &[(2, 1, 1), (1, 1, 0)], 3),
+        (
+            "after and together or after",
+            2,
+            &[(0, 4, 1), (1, 6, 2)],
+            3,
+        ),
+        (
+            "two groups of two",
+            3,
+            &[(1, 2, 3), (2, 2, 0), (3, 1, 0)],
+            4,
+        ),
+        ("any relation", 2, &[(0, 7, 1), (1, 7, 2), (2, 7, 0)], 3),
+        ("apart", 2, &[(0, 5, 1), (1, 5, 2), (2, 5, 0)], 3),
+    ];
+    show_all(rt, &cases)
 }
 
 // Lists that are too short, or longer than the moments.
 fn show_lists(rt: &HostRuntime) -> io::Result<()> {
-    show(rt, "no entry", 0, &[], 0)?;
-    show(rt, "one entry too few", 2, &[(0, 1, 1)], 2)?;
-    show(rt, "too few, and a clash", 2, &[(0, 1, 0)], 2)?;
-    show(rt, "a clash", 2, &[(0, 1, 0)], 3)?;
-    show(rt, "two entries more", 2, &[(2, 1, 1)], 5)
+    let cases: [(&str, u8, &[Row], usize); 5] = [
+        ("no entry", 0, &[], 0),
+        ("one entry too few", 2, &[(0, 1, 1)], 2),
+        ("too few, and a clash", 2, &[(0, 1, 0)], 2),
+        ("a clash", 2, &[(0, 1, 0)], 3),
+        ("two entries more", 2, &[(2, 1, 1)], 5),
+    ];
+    show_all(rt, &cases)
 }
 
 // Rows from each moment to the next of 256, and one from the last to the first.
@@ -115,38 +132,48 @@ fn show_ring(rt: &HostRuntime, name: &str, set: u8, back: u8, length: usize) -> 
     show(rt, name, 255, &rows, length)
 }
 
-// The next of a fixed sequence of numbers that look random, each below 2^31.
-fn next(seed: u64) -> u64
-    ensures { result < 2 ^ 31 }
-{
-    (seed % 2147483648 * 1103515245 + 12345) % 2147483648
+// A fixed sequence of numbers that look random.
+struct Random {
+    seed: u64,
 }
 
-// So many rows over the moments up to the last, and the seed of what follows.
-fn random_rows(rt: &HostRuntime, seed: u64, last: u8, count: u64) -> io::Result<(Vec<Row>, u64)> {
-    let mut rows = Vec::new(rt.alloc());
-    let mut seed = seed;
-    for _ in 0..count {
-        let first = next(seed);
-        let second = next(first);
-        seed = next(second);
-        let left = (first / 65536 % (u64::from(last) + 1)) as u16;
-        let right = (seed / 65536 % (u64::from(last) + 1)) as u16;
-        rows.push((left, (1 + second / 65536 % 7) as u8, right))?;
+impl Random {
+    // The next of them, below the bound.
+    fn below(&mut self, bound: u64) -> u64
+        requires { 0 < bound }
+        ensures { result < bound }
+    {
+        self.seed = (self.seed % 2147483648 * 1103515245 + 12345) % 2147483648;
+        self.seed / 65536 % bound
     }
-    Ok((rows, seed))
+}
+
+// So many rows over the moments up to the last.
+fn random_rows(
+    rt: &HostRuntime,
+    random: &mut Random,
+    last: u8,
+    count: u64,
+) -> io::Result<Vec<Row>> {
+    let moments = u64::from(last) + 1;
+    let mut rows = Vec::new(rt.alloc());
+    for _ in 0..count {
+        let left = random.below(moments) as u16;
+        let set = 1 + random.below(7) as u8;
+        let right = random.below(moments) as u16;
+        rows.push((left, set, right))?;
+    }
+    Ok(rows)
 }
 
 // So many scenes of up to six moments and eight rows.
 fn show_random(rt: &HostRuntime, scenes: usize) -> io::Result<()> {
-    let mut seed = 2026;
+    let mut random = Random { seed: 2026 };
     for _ in 0..scenes {
-        let first = next(seed);
-        let second = next(first);
-        let last = (first / 65536 % 6) as u8;
-        let (rows, rest) = random_rows(rt, second, last, second / 65536 % 9)?;
+        let last = random.below(6) as u8;
+        let count = random.below(9);
+        let rows = random_rows(rt, &mut random, last, count)?;
         show(rt, "random", last, &rows, last as usize + 1)?;
-        seed = rest;
     }
     Ok(())
 }

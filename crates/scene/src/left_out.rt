@@ -15,7 +15,8 @@ const MARKABLE: usize = 4096;
 pub struct LeftOut<'a, 'm, S> {
     below: &'a S,
     marks: &'m [u16],
-    // The markable positions that remain, in rising sequence.
+    // The markable positions that remain, in rising sequence. Fixed arrays, so that making a layer needs no memory
+    // from the heap and has no outcome beyond its refusals.
     positions: [u16; MARKABLE],
     // How many remain below each position up to the first that cannot be marked.
     ranks: [u16; MARKABLE + 1],

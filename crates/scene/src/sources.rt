@@ -4,7 +4,7 @@ ghost use Rattle.std.specs.Iterator.{YieldsFirst, item_count};
 ghost use Rattle.scene.specs.Scenes.{Scene, Lawful};
 ghost use Rattle.std.specs.List.{slice_get};
 
-// The left moment, the set of relations, the right moment.
+// The left moment, the set of relations, the right moment: plain numbers, as any writer of a source answers them.
 pub type Row = (u16, u8, u16);
 
 // The most moments that a scene may have.

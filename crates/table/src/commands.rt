@@ -11,6 +11,7 @@ pub enum Command {
     Rule { from: u8, high: u8, low: u8, to: u8 },
 }
 
+// The first byte of each command: constants, since patterns of bytes name them.
 pub const START: u8 = 0x10;
 
 pub const END: u8 = 0x00;

@@ -7,37 +7,25 @@ use table::reader::{ReadError, read_table};
 
 fn show(rt: &HostRuntime, name: &str, bytes: &[u8]) -> io::Result<()> {
     match read_table(rt.alloc(), bytes) {
-        Ok(table) => {
-            let moments = table.moments();
-            let rows = table.count();
-            println!(rt; "{name}\tfound\t{moments}\t{rows}")
-        }
-        Err(ReadError::Refused(fault)) => {
-            let number = fault.refusal.number();
-            let place = fault.place;
-            println!(rt; "{name}\trefused\t{number}\t{place}")
-        }
+        Ok(table) => println!(rt; "{name}\tfound\t{}\t{}", table.moments(), table.count()),
+        Err(ReadError::Refused(fault)) => println!(rt; "{name}\trefused\t{fault}"),
         Err(ReadError::NoMemory) => println!(rt; "{name}\tno memory"),
     }
 }
 
-// A table of two moments with so many commands for a row, and then these bytes.
-fn show_rows(rt: &HostRuntime, name: &str, rows: usize, end: &[u8]) -> io::Result<()> {
+// A table of moments up to the last, with a command so many times, and then these bytes.
+fn show_long(
+    rt: &HostRuntime,
+    name: &str,
+    last: u8,
+    times: usize,
+    command: &[u8],
+    end: &[u8],
+) -> io::Result<()> {
     let mut bytes = Vec::new(rt.alloc());
-    bytes.extend_from_slice(&[0x10, 1])?;
-    for _ in 0..rows {
-        bytes.extend_from_slice(&[0x01, 0, 1, 1])?;
-    }
-    bytes.extend_from_slice(end)?;
-    show(rt, name, &bytes)
-}
-
-// A table of 256 moments with so many commands for a title, and then these bytes.
-fn show_titles(rt: &HostRuntime, name: &str, titles: usize, end: &[u8]) -> io::Result<()> {
-    let mut bytes = Vec::new(rt.alloc());
-    bytes.extend_from_slice(&[0x10, 255])?;
-    for _ in 0..titles {
-        bytes.extend_from_slice(&[0x03, 127])?;
+    bytes.extend_from_slice(&[0x10, last])?;
+    for _ in 0..times {
+        bytes.extend_from_slice(command)?;
     }
     bytes.extend_from_slice(end)?;
     show(rt, name, &bytes)
@@ -157,19 +145,25 @@ fn main(rt: HostRuntime) -> io::Result<()> {
     show_framing(&rt)?;
     show_operands(&rt)?;
     show_rules(&rt)?;
-    show_rows(&rt, "4,096 rows", 4096, b"\x00")?;
-    show_rows(&rt, "4,097 rows", 4097, b"\x00")?;
-    show_rows(
+    let row = [0x01, 0, 1, 1];
+    show_long(&rt, "4,096 rows", 1, 4096, &row, b"\x00")?;
+    show_long(&rt, "4,097 rows", 1, 4097, &row, b"\x00")?;
+    show_long(
         &rt,
         "4,097 rows, then a byte after the end",
+        1,
         4097,
+        &row,
         b"\x00\x00",
     )?;
-    show_titles(
+    let title = [0x03, 127];
+    show_long(
         &rt,
         "32,768 bytes, too many rows",
+        255,
         16380,
+        &title,
         b"\x02\x7f\x00\x01\x7f\x00",
     )?;
-    show_titles(&rt, "32,769 bytes", 16383, b"\x00")
+    show_long(&rt, "32,769 bytes", 255, 16383, &title, b"\x00")
 }
