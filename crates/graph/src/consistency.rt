@@ -12,14 +12,14 @@ use scene::sources::Source;
 
 // Whether a row lacks together and has both ends in one group.
 fn is_impossible(closure: &Closure, left: u8, set: u8, right: u8) -> bool
-    ensures { result ≡ (not (has set Together) && (reaches closure.now.rows left right && reaches closure.now.rows right left)) }
+    ensures { result ≡ (not (has set Together) && (reaches closure.now.matrix.rows left right && reaches closure.now.matrix.rows right left)) }
 {
     !Relation::Together.is_in(set) && closure.same_group(left, right)
 }
 
 // Whether some row of the source is so.
 fn has_impossible_row<S: Source>(source: &S, closure: &Closure) -> bool
-    requires { Tells (reaches closure.now.rows) (S.scene source.now).rows }
+    requires { Tells (reaches closure.now.matrix.rows) (S.scene source.now).rows }
     ensures { Decides result (SomeImpossible (S.scene source.now).rows (S.scene source.now).rows) }
 {
     for position in 0..source.count() {
@@ -34,7 +34,7 @@ fn has_impossible_row<S: Source>(source: &S, closure: &Closure) -> bool
 
 // What the steps of a source's rows reach; none where the rows clash.
 pub fn closure_without_clash<S: Source>(source: &S) -> Option<Closure>
-    ensures { MatchOption result (Clash (S.scene source.now).rows) (λ c. Agree (S.scene source.now).rows × Tells (reaches c.rows) (S.scene source.now).rows) }
+    ensures { MatchOption result (Clash (S.scene source.now).rows) (λ c. Agree (S.scene source.now).rows × Tells (reaches c.matrix.rows) (S.scene source.now).rows) }
 {
     let closure = Closure::of(source);
     if has_impossible_row(source, &closure) {

@@ -25,15 +25,15 @@ pub struct Entry {
 
 // Whether whoever reaches a moment has a place, or is of its group.
 fn is_clear(closure: &Closure, back: &Closure, placed: Moments, moment: u8) -> bool
-    ensures { Decides result (Clear (reaches closure.now.rows) (reaches back.now.rows) (holds placed) moment) }
+    ensures { Decides result (Clear (reaches closure.now.matrix.rows) (reaches back.now.matrix.rows) (holds placed) moment) }
 {
     let allowed = closure.reached_from(moment).join(placed);
-    back.reached_from(moment).within(&allowed)
+    back.reached_from(moment).within(allowed)
 }
 
 // Whether a moment has no place, and no other group without a place reaches it.
 fn is_free(closure: &Closure, back: &Closure, placed: Moments, moment: u8) -> bool
-    ensures { Decides result (Free (reaches closure.now.rows) (reaches back.now.rows) (holds placed) moment) }
+    ensures { Decides result (Free (reaches closure.now.matrix.rows) (reaches back.now.matrix.rows) (holds placed) moment) }
 {
     !placed.has(moment) && is_clear(closure, back, placed, moment)
 }
@@ -41,7 +41,7 @@ fn is_free(closure: &Closure, back: &Closure, placed: Moments, moment: u8) -> bo
 // The lowest moment that is free.
 fn lowest_ready(closure: &Closure, back: &Closure, placed: Moments, moments: u16) -> Option<u8>
     requires { moments ≤ 256 }
-    ensures { LowestFree (reaches closure.now.rows) (reaches back.now.rows) (holds placed) moments result }
+    ensures { LowestFree (reaches closure.now.matrix.rows) (reaches back.now.matrix.rows) (holds placed) moments result }
 {
     for m in 0..moments {
         if is_free(closure, back, placed, m as u8) {
@@ -61,7 +61,7 @@ fn place_moment(entries: &mut [Entry], marked: &mut Moments, moment: u8, leader:
         place,
         leader: u16::from(leader),
     };
-    marked.put_if(true, moment);
+    marked.put(moment);
 }
 
 // Writes the entries of a leader's group; the answer is who has a place then.
@@ -74,8 +74,8 @@ fn place_group(
     place: u16,
 ) -> Moments
     requires { (moments ≤ 256) × (moments ≤ length entries.old) }
-    ensures written { Grouped (reaches closure.now.rows) moments leader (record { place = place; leader = leader }) entries.old entries.new }
-    ensures marks { (v : ℕ) → v < 256 → holds result v ≡ (holds placed v || (nat_lt v moments && (reaches closure.now.rows leader v && reaches closure.now.rows v leader))) }
+    ensures written { Grouped (reaches closure.now.matrix.rows) moments leader (record { place = place; leader = leader }) entries.old entries.new }
+    ensures marks { (v : ℕ) → v < 256 → holds result v ≡ (holds placed v || (nat_lt v moments && (reaches closure.now.matrix.rows leader v && reaches closure.now.matrix.rows v leader))) }
 {
     let mut marked = placed;
     for m in 0..moments {
@@ -93,7 +93,7 @@ fn place_groups<S: Source>(
     back: &Closure,
     entries: &mut [Entry],
 ) -> u16
-    requires { (Tells (reaches closure.now.rows) (S.scene source.now).rows) × ((Tells (reaches back.now.rows) (turned_scene (S.scene source.now)).rows) × ((S.scene source.now).moments ≤ length entries.old)) }
+    requires { (Tells (reaches closure.now.matrix.rows) (S.scene source.now).rows) × ((Tells (reaches back.now.matrix.rows) (turned_scene (S.scene source.now)).rows) × ((S.scene source.now).moments ≤ length entries.old)) }
     ensures order { Ordered (S.scene source.now).moments (S.scene source.now).rows entries.new result }
     ensures rest { Beyond (S.scene source.now).moments entries.old entries.new }
 {
@@ -109,7 +109,7 @@ fn place_groups<S: Source>(
 
 // The same, with who reaches a moment read from the source.
 fn place_all<S: Source>(source: &S, closure: &Closure, entries: &mut [Entry]) -> u16
-    requires { (Tells (reaches closure.now.rows) (S.scene source.now).rows) × ((S.scene source.now).moments ≤ length entries.old) }
+    requires { (Tells (reaches closure.now.matrix.rows) (S.scene source.now).rows) × ((S.scene source.now).moments ≤ length entries.old) }
     ensures order { Ordered (S.scene source.now).moments (S.scene source.now).rows entries.new result }
     ensures rest { Beyond (S.scene source.now).moments entries.old entries.new }
 {

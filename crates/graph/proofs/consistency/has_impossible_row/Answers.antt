@@ -15,7 +15,7 @@ use Rattle.graph.proofs.consistency.has_impossible_row.Goals.{in-Some+else-is_im
 pub returns-then-is_impossible : goal.returns-then-is_impossible
 returns-then-is_impossible g c =
     let s = g.S.Source.scene c.args.source.now in
-    let t = reaches c.args.closure.now.rows in
+    let t = reaches c.args.closure.now.matrix.rows in
     let r : Row = (c.in-Some.left, c.in-Some.set, c.in-Some.right) in
     let is = sym c.in-Some.is ∙ c.byte_row.ensures in
     let small = row_small s.moments s.rows c.loop-position.position r s.lawful is in
@@ -25,7 +25,7 @@ returns-then-is_impossible g c =
 pub loop-position-preserved : goal.loop-position-preserved
 loop-position-preserved g c =
     let s = g.S.Source.scene c.args.source.now in
-    let t = reaches c.args.closure.now.rows in
+    let t = reaches c.args.closure.now.matrix.rows in
     let i = c.loop-position.position in
     elim c.match-byte_row.branch [
       | in-Some+else-is_impossible w ↦ (

@@ -5,4 +5,4 @@ use Rattle.graph.specs.Sets.{holds}
 use Rattle.graph.proofs.order.lowest_ready.Given as goal
 
 abbrev pub invariant-loop-m : goal.invariant-loop-m
-invariant-loop-m l = (v : ℕ) → v < l.m → Free (reaches l.closure.rows) (reaches l.back.rows) (holds l.placed) v → ⊥
+invariant-loop-m l = (v : ℕ) → v < l.m → Free (reaches l.closure.matrix.rows) (reaches l.back.matrix.rows) (holds l.placed) v → ⊥

@@ -9,7 +9,7 @@ use Rattle.graph.proofs.order.place_group.Goals.{then-same_group, else-same_grou
 
 pub loop-m-preserved : goal.loop-m-preserved
 loop-m-preserved c =
-    let t = reaches c.args.closure.now.rows in
+    let t = reaches c.args.closure.now.matrix.rows in
     let P : ℕ → Bool = λ x. t c.args.leader x && t x c.args.leader in
     let e : Entry = record { place = c.args.place; leader = c.args.leader } in
     let old = c.args.entries.now in

@@ -16,7 +16,7 @@ loop-leader-smaller g c =
     let n = c.moments-moments.result in
     let lawful = subst (λ v. Lawful v s.rows) (sym c.moments-moments.ensures) s.lawful in
     let e = c.in-Some.ensures in
-    state_fewer n s.rows lawful.own lawful.few (reaches c.args.closure.now.rows) c.requires.0 (reaches c.args.back.now.rows) c.requires.1.0
+    state_fewer n s.rows lawful.own lawful.few (reaches c.args.closure.now.matrix.rows) c.requires.0 (reaches c.args.back.now.matrix.rows) c.requires.1.0
     c.args.entries.now c.loop-leader.entries (holds c.loop-leader.placed) c.loop-leader.places c.loop-leader.invariant
     c.in-Some.leader e.0 e.1 e.2
     c.place_group-placed.new.entries (holds c.place_group-placed.result) c.place_group-placed.ensures.written c.place_group-placed.ensures.marks
@@ -27,7 +27,7 @@ loop-leader-preserved g c =
     let n = c.moments-moments.result in
     let lawful = subst (λ v. Lawful v s.rows) (sym c.moments-moments.ensures) s.lawful in
     let e = c.in-Some.ensures in
-    state_turn n s.rows lawful.own lawful.few (reaches c.args.closure.now.rows) c.requires.0 (reaches c.args.back.now.rows) c.requires.1.0
+    state_turn n s.rows lawful.own lawful.few (reaches c.args.closure.now.matrix.rows) c.requires.0 (reaches c.args.back.now.matrix.rows) c.requires.1.0
     c.args.entries.now c.loop-leader.entries (holds c.loop-leader.placed) c.loop-leader.places c.loop-leader.invariant
     c.in-Some.leader e.0 e.1 e.2
     c.place_group-placed.new.entries (holds c.place_group-placed.result) c.place_group-placed.ensures.written c.place_group-placed.ensures.marks
@@ -39,7 +39,7 @@ returns g c =
     let lawful = subst (λ v. Lawful v s.rows) (sym c.moments-moments.ensures) s.lawful in
     record {
       order = subst (λ v. Ordered v s.rows c.loop-leader.entries c.loop-leader.places) c.moments-moments.ensures
-          (state_done n s.rows lawful.own lawful.few (reaches c.args.closure.now.rows) c.requires.0 (reaches c.args.back.now.rows) c.requires.1.0
+          (state_done n s.rows lawful.own lawful.few (reaches c.args.closure.now.matrix.rows) c.requires.0 (reaches c.args.back.now.matrix.rows) c.requires.1.0
           c.args.entries.now c.loop-leader.entries (holds c.loop-leader.placed) c.loop-leader.places c.loop-leader.invariant c.in_default.ensures);
       rest = subst (λ v. Beyond v c.args.entries.now c.loop-leader.entries) c.moments-moments.ensures c.loop-leader.invariant.rest;
     }

@@ -30,7 +30,7 @@ returns g c =
     record {
       answer = (
         ((λ h. omega (arith, h, c.if-entries-moments.false, c.moments.ensures)), ((λ h. h e.0), tt)),
-        ordered_owed s (reaches c.in-Some.closure.rows) e.1 es k o e.0,
+        ordered_owed s (reaches c.in-Some.closure.matrix.rows) e.1 es k o e.0,
       );
       list = c.place_all.ensures.rest;
       one = one_order s;

@@ -1,12 +1,12 @@
 use Rattle.std.proofs.Common.{◌≡◌, not, length, set, refl, ◌∙◌, arith, length-set, rules}
 use Rattle.graph.proofs.Growth.{put_row}
-use Rattle.graph.proofs.closure.put_steps.Goals as goal
+use Rattle.graph.proofs.closure.Matrix.put_steps.Goals as goal
 
 pub returns : goal.returns
 returns c = λ x y hx hy.
-    let rows = c.args.rows.now in
-    let left = c.args.left in
-    let right = c.args.right in
+    let rows = c.args.self.now.rows in
+    let left = c.args.row.0 in
+    let right = c.args.row.2 in
     let once = set rows left c.put_if.new.self in
     let long : length rows ≡ 256 = search rules in
     let still : length once ≡ 256 = length-set rows left c.put_if.new.self ∙ long in
