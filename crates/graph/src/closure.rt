@@ -140,8 +140,8 @@ impl Matrix {
     fn close(&mut self)
         ensures { (rs : List Row) → Inside rs → TellsSteps (reaches self.old.rows) rs → Tells (reaches self.new.rows) rs }
     {
-        for pair in 0..128u8 {
-            self.pass_pair(2 * pair);
+        for first in (0..=254).step_by(2) {
+            self.pass_pair(first);
         }
     }
 }
