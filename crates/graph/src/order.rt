@@ -117,6 +117,7 @@ fn place_groups<S: Source>(reached: &Reached<S>, entries: &mut [Entry]) -> u16
 }
 
 // The same in a list that may be longer.
+#[tactic(auto, using(crate::proofs::Outcome::ordered_longer, crate::proofs::Outcome::beyond_longer))]
 fn place_all<S: Source>(reached: &Reached<S>, entries: &mut [Entry]) -> u16
     requires { (S.scene reached.now.source.now).moments ≤ length entries.old }
     ensures order { Ordered (S.scene reached.now.source.now).moments (S.scene reached.now.source.now).rows entries.new result }
