@@ -1,13 +1,16 @@
 -- Which moment reaches which by given rows, worked out from the rows one by one.
 use Rattle.std.proofs.Common.{◌≡◌, ℕ, ◌<◌, ◌≤◌, Bool, true, false, ◌&&◌, eqb, ◌⊎◌, List, [], ◌∷◌, Decides, sym, refl, subst, inl, inr, arith}
 use Rattle.std.proofs.lemmas.Bool.{and_parts, true≢false}
-use Rattle.std.proofs.lemmas.Bool.Decides.{Decides-like, Decides-and, Decides-or, Decides-eqb}
+use Rattle.std.proofs.Math.Bool.{Bool-set}
+use Rattle.std.proofs.Math.Logic.{∥∥₁_elim}
+use Rattle.std.proofs.lemmas.Bool.Decides.{Decides-like, Decides-and, Decides-or, Decides-eqb, same_from_decides}
 use Rattle.algebra.specs.Placements.{Row}
 use Rattle.algebra.specs.Points.{has}
 use Rattle.algebra.specs.declared.points.Relation.TheVariants.{Before, After}
-use Rattle.scene.specs.Scenes.{names, ranged, all_fit}
+use Rattle.scene.specs.Scenes.{Lawful, names, ranged, all_fit}
 use Rattle.graph.specs.Steps.{Path, stay, onward, Step, StepOf}
 use Rattle.graph.specs.Reaching.{Tells, grown}
+use Rattle.graph.proofs.Closed.{same_tells}
 use Rattle.graph.proofs.Paths.{path_join, path_map, row_ends}
 
 -- one more step
@@ -92,3 +95,9 @@ table_tells n (r ∷ rs) few own =
     let p = and_parts (names n r && ranged r) (all_fit n rs) own in
     let e = row_ends n r p.0 in
     right_row (table rs) (Step rs) r (omega (arith, e.0)) (omega (arith, e.1)) (table_tells n rs few p.1)
+
+-- a table that is known to tell of the paths does so by this one
+pub tells_again : (n : ℕ) (rs : List Row) → Lawful n rs → (t : ℕ → ℕ → Bool) → ∥ Tells t rs ∥₁ → Tells t rs
+tells_again n rs lawful t told =
+    let known = table_tells n rs lawful.few lawful.own in
+    same_tells t (table rs) (λ x y hx hy. ∥∥₁_elim told (Bool-set _ _) (λ tells. same_from_decides (t x y) (table rs x y) (tells x y hx hy) (known x y hx hy))) known

@@ -10,38 +10,61 @@ use crate::closure::{Closure, byte_row};
 use algebra::points::Relation;
 use scene::sources::Source;
 
-// Whether a row lacks together and has both ends in one group.
-fn is_impossible(closure: &Closure, left: u8, set: u8, right: u8) -> bool
-    ensures { result ≡ (not (has set Together) && (reaches closure.now.rows left right && reaches closure.now.rows right left)) }
-{
-    !Relation::Together.is_in(set) && closure.same_group(left, right)
+// A source, and what the steps of its rows reach.
+#[derive(Drop)]
+pub(crate) struct Reached<'a, S: Source> {
+    pub(crate) source: &'a S,
+    pub(crate) closure: Closure,
+    ghost tells: { ∥ Tells (reaches closure.matrix.rows) (S.scene source.now).rows ∥₁ },
 }
 
-// Whether some row of the source is so.
-fn has_impossible_row<S: Source>(source: &S, closure: &Closure) -> bool
-    requires { Tells (reaches closure.now.rows) (S.scene source.now).rows }
-    ensures { Decides result (SomeImpossible (S.scene source.now).rows (S.scene source.now).rows) }
-{
-    for position in 0..source.count() {
-        if let Some((left, set, right)) = byte_row(source, position) {
-            if is_impossible(closure, left, set, right) {
-                return true;
-            }
+impl<'a, S: Source> Reached<'a, S> {
+    pub(crate) fn of(source: &'a S) -> Self
+        ensures { result.source.now ≡ source.now }
+    {
+        Reached {
+            source,
+            closure: Closure::of(source),
         }
     }
-    false
+
+    // Whether a row lacks together and has both ends in one group.
+    fn is_impossible(&self, row: (u8, u8, u8)) -> bool
+        ensures { result ≡ (not (has row.1 Together) && (reaches self.now.closure.matrix.rows row.0 row.2 && reaches self.now.closure.matrix.rows row.2 row.0)) }
+    {
+        let (left, set, right) = row;
+        !Relation::Together.is_in(set) && self.closure.same_group(left, right)
+    }
+
+    // Whether some row of the source is so.
+    fn has_impossible_row(&self) -> bool
+        ensures { Decides result (SomeImpossible (S.scene self.now.source.now).rows (S.scene self.now.source.now).rows) }
+    {
+        for position in 0..self.source.count() {
+            if let Some(row) = byte_row(self.source, position) {
+                if self.is_impossible(row) {
+                    return true;
+                }
+            }
+        }
+        false
+    }
+
+    // None where the rows clash.
+    pub(crate) fn without_clash(source: &'a S) -> Option<Self>
+        ensures { MatchOption result (Clash (S.scene source.now).rows) (λ r. Agree (S.scene source.now).rows × (r.source.now ≡ source.now)) }
+    {
+        let reached = Reached::of(source);
+        (!reached.has_impossible_row()).then_some(reached)
+    }
 }
 
 // What the steps of a source's rows reach; none where the rows clash.
 pub fn closure_without_clash<S: Source>(source: &S) -> Option<Closure>
-    ensures { MatchOption result (Clash (S.scene source.now).rows) (λ c. Agree (S.scene source.now).rows × Tells (reaches c.rows) (S.scene source.now).rows) }
+    ensures { MatchOption result (Clash (S.scene source.now).rows) (λ c. Agree (S.scene source.now).rows × Tells (reaches c.matrix.rows) (S.scene source.now).rows) }
 {
-    let closure = Closure::of(source);
-    if has_impossible_row(source, &closure) {
-        None
-    } else {
-        Some(closure)
-    }
+    let reached = Reached::without_clash(source)?;
+    Some(reached.closure)
 }
 
 // Whether some placement obeys all rows of a source.

@@ -1,6 +1,8 @@
 // Sets of moments, a bit for each.
-ghost use Rattle.std.specs.Prelude.{◌≡◌, ℕ, ◌+◌, ◌%◌, ◌<◌, false, ◌&&◌, ◌||◌, Decides, ◌==◌};
+ghost use Rattle.std.specs.Prelude.{◌≡◌, ℕ, ◌+◌, ◌/◌, ◌%◌, ◌^◌, ◌<◌, false, ◌&&◌, ◌||◌, Decides, ◌==◌, slice_index};
 ghost use Rattle.graph.specs.Sets.{Within, holds, pair};
+
+use std::array;
 
 // A set of moments, each below 256.
 #[derive(Clone, Copy)]
@@ -15,10 +17,17 @@ impl Moments {
         Moments { words: [0; 4] }
     }
 
+    // The word of a moment, shifted so that the moment has the lowest bit.
+    fn word_from(&self, moment: u8) -> u64
+        ensures { result ≡ slice_index self.now.words (moment / 64) / 2 ^ (moment % 64) }
+    {
+        self.words[moment as usize / 64] >> (moment % 64)
+    }
+
     pub fn has(&self, moment: u8) -> bool
         ensures { result ≡ holds self.now moment }
     {
-        (self.words[moment as usize / 64] >> (moment % 64)) & 1 == 1
+        self.word_from(moment) & 1 == 1
     }
 
     // Which of a moment and the next one are in the set: 1 for the first, 2 for the next, and their sum.
@@ -26,10 +35,17 @@ impl Moments {
         requires { first % 2 ≡ 0 }
         ensures { result ≡ pair (holds self.now first) (holds self.now (first + 1)) }
     {
-        ((self.words[first as usize / 64] >> (first % 64)) & 3) as usize
+        (self.word_from(first) & 3) as usize
     }
 
-    // Puts in a moment, if told to.
+    // Puts in a moment.
+    pub fn put(&mut self, moment: u8)
+        ensures { (k : ℕ) → k < 256 → holds self.new k ≡ (holds self.old k || k == moment) }
+    {
+        self.put_if(true, moment);
+    }
+
+    // Puts in a moment, if told to; without a branch, for speed.
     pub fn put_if(&mut self, told: bool, moment: u8)
         ensures { (k : ℕ) → k < 256 → holds self.new k ≡ (holds self.old k || (told && k == moment)) }
     {
@@ -40,35 +56,34 @@ impl Moments {
     pub fn join(self, other: Self) -> Self
         ensures { (k : ℕ) → k < 256 → holds result k ≡ (holds self k || holds other k) }
     {
-        let a = self.words;
-        let b = other.words;
         Moments {
-            words: [a[0] | b[0], a[1] | b[1], a[2] | b[2], a[3] | b[3]],
+            words: array::from_fn(|i| self.words[i] | other.words[i]),
         }
     }
 
-    // Puts in the moments of another set, if the set has a given one; without a branch, for speed.
+    // The set itself, if told to, and none otherwise; without a branch, for speed.
+    fn only_if(self, told: bool) -> Self
+        ensures { (k : ℕ) → k < 256 → holds result k ≡ (told && holds self k) }
+    {
+        let mask = 0u64.wrapping_sub(told as u64);
+        Moments {
+            words: self.words.map(|word| word & mask),
+        }
+    }
+
+    // Puts in the moments of another set, if the set has a given one.
     pub fn follow(&mut self, given: u8, other: Self)
         ensures { (k : ℕ) → k < 256 → holds self.new k ≡ (holds self.old k || (holds self.old given && holds other k)) }
     {
-        let bit = (self.words[given as usize / 64] >> (given % 64)) & 1;
-        let mask = 0u64.wrapping_sub(bit);
-        let a = self.words;
-        let b = other.words;
-        self.words = [
-            a[0] | (b[0] & mask),
-            a[1] | (b[1] & mask),
-            a[2] | (b[2] & mask),
-            a[3] | (b[3] & mask),
-        ];
+        *self = self.join(other.only_if(self.has(given)));
     }
 
     // Whether each moment of the set is one of the other.
-    pub fn within(&self, other: &Moments) -> bool
-        ensures { Decides result (Within self.now other.now) }
+    pub fn within(self, other: Self) -> bool
+        ensures { Decides result (Within self other) }
     {
-        for i in 0..4 {
-            if self.words[i] | other.words[i] != other.words[i] {
+        for (word, wider) in self.words.iter().zip(&other.words) {
+            if word | wider != *wider {
                 return false;
             }
         }

@@ -1,5 +1,5 @@
 // The order: groups take their places turn by turn, the lowest leader that is ready first.
-ghost use Rattle.std.specs.Prelude.{◌≡◌, ℕ, ◌<◌, ◌≤◌, ◌&&◌, ◌||◌, length, set, Decides, MatchResult, ◌==◌, nat_lt};
+ghost use Rattle.std.specs.Prelude.{◌≡◌, ℕ, ◌<◌, ◌≤◌, false, ◌&&◌, ◌||◌, length, Decides, MatchResult, nat_lt};
 ghost use Rattle.scene.specs.Checks.{Answers};
 ghost use Rattle.graph.specs.Free.{Clear, Free, Grouped, LowestFree};
 ghost use Rattle.graph.specs.Orders.{Beyond, OneOrder, Ordered, Owed, ordering};
@@ -9,7 +9,7 @@ ghost use Rattle.graph.specs.Turned.{turned_scene};
 ghost use Rattle.graph.specs.Worked.{Worked};
 
 use crate::closure::Closure;
-use crate::consistency::closure_without_clash;
+use crate::consistency::Reached;
 use crate::moments::Moments;
 use crate::turned::Turned;
 use scene::refusals::Refusal;
@@ -23,102 +23,113 @@ pub struct Entry {
     pub leader: u16,
 }
 
-// Whether whoever reaches a moment has a place, or is of its group.
-fn is_clear(closure: &Closure, back: &Closure, placed: Moments, moment: u8) -> bool
-    ensures { Decides result (Clear (reaches closure.now.rows) (reaches back.now.rows) (holds placed) moment) }
-{
-    let allowed = closure.reached_from(moment).join(placed);
-    back.reached_from(moment).within(&allowed)
-}
-
-// Whether a moment has no place, and no other group without a place reaches it.
-fn is_free(closure: &Closure, back: &Closure, placed: Moments, moment: u8) -> bool
-    ensures { Decides result (Free (reaches closure.now.rows) (reaches back.now.rows) (holds placed) moment) }
-{
-    !placed.has(moment) && is_clear(closure, back, placed, moment)
-}
-
-// The lowest moment that is free.
-fn lowest_ready(closure: &Closure, back: &Closure, placed: Moments, moments: u16) -> Option<u8>
-    requires { moments ≤ 256 }
-    ensures { LowestFree (reaches closure.now.rows) (reaches back.now.rows) (holds placed) moments result }
-{
-    for m in 0..moments {
-        if is_free(closure, back, placed, m as u8) {
-            return Some(m as u8);
-        }
+impl Entry {
+    fn new(place: u16, leader: u8) -> Self
+        ensures { result ≡ record { place = place; leader = leader } }
+    {
+        let leader = u16::from(leader);
+        Entry { place, leader }
     }
-    None
 }
 
-// Writes the entry of a moment, and marks it.
-fn place_moment(entries: &mut [Entry], marked: &mut Moments, moment: u8, leader: u8, place: u16)
-    requires { moment < length entries.old }
-    ensures written { entries.new ≡ set entries.old moment (record { place = place; leader = leader }) }
-    ensures marks { (v : ℕ) → v < 256 → holds marked.new v ≡ (holds marked.old v || v == moment) }
-{
-    entries[moment as usize] = Entry {
-        place,
-        leader: u16::from(leader),
-    };
-    marked.put_if(true, moment);
-}
-
-// Writes the entries of a leader's group; the answer is who has a place then.
-fn place_group(
-    closure: &Closure,
-    entries: &mut [Entry],
+// Groups that take their places: what each moment reaches, what reaches it, and who has a place.
+#[derive(Drop)]
+struct Placing<'a, S: Source> {
+    reached: &'a Reached<'a, S>,
+    back: Closure,
     placed: Moments,
-    moments: u16,
-    leader: u8,
-    place: u16,
-) -> Moments
-    requires { (moments ≤ 256) × (moments ≤ length entries.old) }
-    ensures written { Grouped (reaches closure.now.rows) moments leader (record { place = place; leader = leader }) entries.old entries.new }
-    ensures marks { (v : ℕ) → v < 256 → holds result v ≡ (holds placed v || (nat_lt v moments && (reaches closure.now.rows leader v && reaches closure.now.rows v leader))) }
-{
-    let mut marked = placed;
-    for m in 0..moments {
-        if closure.same_group(leader, m as u8) {
-            place_moment(entries, &mut marked, m as u8, leader, place);
-        }
-    }
-    marked
+    ghost back_tells: { ∥ Tells (reaches back.matrix.rows) (turned_scene (S.scene reached.now.source.now)).rows ∥₁ },
 }
 
-// Places all groups of a source; the answer is the number of places.
-fn place_groups<S: Source>(
-    source: &S,
-    closure: &Closure,
-    back: &Closure,
-    entries: &mut [Entry],
-) -> u16
-    requires { (Tells (reaches closure.now.rows) (S.scene source.now).rows) × ((Tells (reaches back.now.rows) (turned_scene (S.scene source.now)).rows) × ((S.scene source.now).moments ≤ length entries.old)) }
-    ensures order { Ordered (S.scene source.now).moments (S.scene source.now).rows entries.new result }
-    ensures rest { Beyond (S.scene source.now).moments entries.old entries.new }
+impl<'a, S: Source> Placing<'a, S> {
+    // No moment has a place.
+    fn new(reached: &'a Reached<'a, S>) -> Self
+        ensures same { result.reached.now ≡ reached.now }
+        ensures none { (v : ℕ) → v < 256 → holds result.placed v ≡ false }
+    {
+        let back = Closure::of(&Turned {
+            below: reached.source,
+        });
+        Placing {
+            reached,
+            back,
+            placed: Moments::none(),
+        }
+    }
+
+    // Whether whoever reaches a moment has a place, or is of its group.
+    fn is_clear(&self, moment: u8) -> bool
+        ensures { Decides result (Clear (reaches self.now.reached.now.closure.matrix.rows) (reaches self.now.back.matrix.rows) (holds self.now.placed) moment) }
+    {
+        let allowed = self.reached.closure.reached_from(moment).join(self.placed);
+        self.back.reached_from(moment).within(allowed)
+    }
+
+    // Whether a moment has no place, and no other group without a place reaches it.
+    fn is_free(&self, moment: u8) -> bool
+        ensures { Decides result (Free (reaches self.now.reached.now.closure.matrix.rows) (reaches self.now.back.matrix.rows) (holds self.now.placed) moment) }
+    {
+        !self.placed.has(moment) && self.is_clear(moment)
+    }
+
+    // The lowest moment that is free.
+    fn lowest_ready(&self) -> Option<u8>
+        ensures { LowestFree (reaches self.now.reached.now.closure.matrix.rows) (reaches self.now.back.matrix.rows) (holds self.now.placed) (S.scene self.now.reached.now.source.now).moments result }
+    {
+        // A loop, since the proof of a `find` did not close.
+        for m in 0..self.reached.source.moments() {
+            if self.is_free(m as u8) {
+                return Some(m as u8);
+            }
+        }
+        None
+    }
+
+    // Writes the entries of a leader's group, which then has a place.
+    fn place_group(&mut self, entries: &mut [Entry], leader: u8, place: u16)
+        requires { length entries.old ≤ 256 }
+        ensures kept { self.new.reached.now ≡ self.old.reached.now }
+        ensures written { Grouped (reaches self.old.reached.now.closure.matrix.rows) (length entries.old) leader (record { place = place; leader = leader }) entries.old entries.new }
+        ensures marks { (v : ℕ) → v < 256 → holds self.new.placed v ≡ (holds self.old.placed v || (nat_lt v (length entries.old) && (reaches self.old.reached.now.closure.matrix.rows leader v && reaches self.old.reached.now.closure.matrix.rows v leader))) }
+    {
+        for (m, entry) in entries.iter_mut().enumerate() {
+            if self.reached.closure.same_group(leader, m as u8) {
+                *entry = Entry::new(place, leader);
+                self.placed.put(m as u8);
+            }
+        }
+    }
+}
+
+// Places all groups of a source, with an entry for each moment; the answer is the number of places.
+fn place_groups<S: Source>(reached: &Reached<S>, entries: &mut [Entry]) -> u16
+    requires { length entries.old ≡ (S.scene reached.now.source.now).moments }
+    ensures order { Ordered (S.scene reached.now.source.now).moments (S.scene reached.now.source.now).rows entries.new result }
+    ensures rest { Beyond (S.scene reached.now.source.now).moments entries.old entries.new }
 {
-    let moments = source.moments();
-    let mut placed = Moments::none();
+    let mut placing = Placing::new(reached);
     let mut places = 0;
-    while let Some(leader) = lowest_ready(closure, back, placed, moments) {
+    while let Some(leader) = placing.lowest_ready() {
         places += 1;
-        placed = place_group(closure, entries, placed, moments, leader, places);
+        placing.place_group(entries, leader, places);
     }
     places
 }
 
-// The same, with who reaches a moment read from the source.
-fn place_all<S: Source>(source: &S, closure: &Closure, entries: &mut [Entry]) -> u16
-    requires { (Tells (reaches closure.now.rows) (S.scene source.now).rows) × ((S.scene source.now).moments ≤ length entries.old) }
-    ensures order { Ordered (S.scene source.now).moments (S.scene source.now).rows entries.new result }
-    ensures rest { Beyond (S.scene source.now).moments entries.old entries.new }
+// The same in a list that may be longer.
+#[tactic(auto, using(crate::proofs::Outcome::ordered_longer, crate::proofs::Outcome::beyond_longer))]
+fn place_all<S: Source>(reached: &Reached<S>, entries: &mut [Entry]) -> u16
+    requires { (S.scene reached.now.source.now).moments ≤ length entries.old }
+    ensures order { Ordered (S.scene reached.now.source.now).moments (S.scene reached.now.source.now).rows entries.new result }
+    ensures rest { Beyond (S.scene reached.now.source.now).moments entries.old entries.new }
 {
-    let back = Closure::of(&Turned { below: source });
-    place_groups(source, closure, &back, entries)
+    let moments = reached.source.moments() as usize;
+    place_groups(reached, &mut entries[..moments])
 }
 
 // Writes the place and the leader of each moment, and answers the number of places. Refused where the list has
 // fewer entries than the source has moments, and then where the rows clash.
+#[tactic(auto, using(crate::proofs::ByHand::worked))]
 pub fn write_order<S: Source>(source: &S, entries: &mut [Entry]) -> Result<u16, Refusal>
     ensures answer { Answers (ordering (S.scene source.now) entries.old) (Owed (S.scene source.now) entries.new) result }
     ensures list { MatchResult result (λ _. Beyond (S.scene source.now).moments entries.old entries.new) (λ _. entries.new ≡ entries.old) }
@@ -128,8 +139,6 @@ pub fn write_order<S: Source>(source: &S, entries: &mut [Entry]) -> Result<u16, 
     if entries.len() < source.moments() as usize {
         return Err(Refusal::ListTooShort);
     }
-    let Some(closure) = closure_without_clash(source) else {
-        return Err(Refusal::Clash);
-    };
-    Ok(place_all(source, &closure, entries))
+    let reached = Reached::without_clash(source).ok_or(Refusal::Clash)?;
+    Ok(place_all(&reached, entries))
 }

@@ -3,14 +3,9 @@ ghost use Rattle.graph.specs.Turned.{turned_scene};
 
 use scene::sources::{Row, Source};
 
+#[derive_where(Clone, Copy)]
 pub struct Turned<'a, S> {
     pub below: &'a S,
-}
-
-impl<S> Drop for Turned<'_, S> {
-    fn drop(self) {
-        let Turned { below: _ } = self;
-    }
 }
 
 impl<'a, S: Source> Source for Turned<'a, S> {

@@ -1,45 +1,46 @@
-use Rattle.std.proofs.Common.{sym, subst}
-use Rattle.scene.specs.Scenes.{Lawful}
-use Rattle.graph.specs.Orders.{Beyond, Ordered}
+use Rattle.std.proofs.Common.{◌∙◌, ap, arith}
 use Rattle.graph.specs.Reaching.{reaches}
 use Rattle.graph.specs.Sets.{holds}
-use Rattle.graph.proofs.Progress.{state_start, state_fewer, state_turn, state_done}
+use Rattle.graph.proofs.Progress.{state_start, next_state, last_state}
 use Rattle.graph.proofs.order.place_groups.Goals as goal
 
 pub loop-leader-init : goal.loop-leader-init
 loop-leader-init g c =
-    state_start c.moments-moments.result (g.S.Source.scene c.args.source.now).rows c.args.entries.now (holds c.none-placed.result) c.none-placed.ensures
+    let s = g.S.Source.scene c.args.reached.now.source.now in
+    (c.new-placing.ensures.same, state_start s.moments s.rows c.args.entries.now (holds c.new-placing.result.placed) c.new-placing.ensures.none)
+
+pub overflow_add-places : goal.overflow_add-places
+overflow_add-places g c = omega (arith, c.loop-leader.invariant.1.left, (g.S.Source.scene c.args.reached.now.source.now).lawful.few)
 
 pub loop-leader-smaller : goal.loop-leader-smaller
 loop-leader-smaller g c =
-    let s = g.S.Source.scene c.args.source.now in
-    let n = c.moments-moments.result in
-    let lawful = subst (λ v. Lawful v s.rows) (sym c.moments-moments.ensures) s.lawful in
-    let e = c.in-Some.ensures in
-    state_fewer n s.rows lawful.own lawful.few (reaches c.args.closure.now.rows) c.requires.0 (reaches c.args.back.now.rows) c.requires.1.0
-    c.args.entries.now c.loop-leader.entries (holds c.loop-leader.placed) c.loop-leader.places c.loop-leader.invariant
-    c.in-Some.leader e.0 e.1 e.2
-    c.place_group-placed.new.entries (holds c.place_group-placed.result) c.place_group-placed.ensures.written c.place_group-placed.ensures.marks
+    let p = c.loop-leader.placing in
+    let r = p.reached.now in
+    let is = ap (λ v. g.S.Source.scene v.source.now) c.loop-leader.invariant.0 in
+    (next_state (g.S.Source.scene r.source.now) _ is (reaches r.closure.matrix.rows) r.tells (reaches p.back.matrix.rows) p.back_tells
+    c.args.entries.now c.loop-leader.entries (holds p.placed) c.loop-leader.places
+    c.in-Some.leader c.in-Some.ensures c.place_group.new.entries (holds c.place_group.new.self.placed) _ (c.loop-leader.auto.entries ∙ c.requires)
+    c.place_group.ensures.written c.place_group.ensures.marks c.loop-leader.invariant.1).1
 
 pub loop-leader-preserved : goal.loop-leader-preserved
 loop-leader-preserved g c =
-    let s = g.S.Source.scene c.args.source.now in
-    let n = c.moments-moments.result in
-    let lawful = subst (λ v. Lawful v s.rows) (sym c.moments-moments.ensures) s.lawful in
-    let e = c.in-Some.ensures in
-    state_turn n s.rows lawful.own lawful.few (reaches c.args.closure.now.rows) c.requires.0 (reaches c.args.back.now.rows) c.requires.1.0
-    c.args.entries.now c.loop-leader.entries (holds c.loop-leader.placed) c.loop-leader.places c.loop-leader.invariant
-    c.in-Some.leader e.0 e.1 e.2
-    c.place_group-placed.new.entries (holds c.place_group-placed.result) c.place_group-placed.ensures.written c.place_group-placed.ensures.marks
+    let p = c.loop-leader.placing in
+    let r = p.reached.now in
+    let is = ap (λ v. g.S.Source.scene v.source.now) c.loop-leader.invariant.0 in (
+      c.place_group.ensures.kept ∙ c.loop-leader.invariant.0,
+      (next_state (g.S.Source.scene r.source.now) _ is (reaches r.closure.matrix.rows) r.tells (reaches p.back.matrix.rows) p.back_tells
+          c.args.entries.now c.loop-leader.entries (holds p.placed) c.loop-leader.places
+          c.in-Some.leader c.in-Some.ensures c.place_group.new.entries (holds c.place_group.new.self.placed) _ (c.loop-leader.auto.entries ∙ c.requires)
+          c.place_group.ensures.written c.place_group.ensures.marks c.loop-leader.invariant.1).0,
+    )
 
 pub returns : goal.returns
 returns g c =
-    let s = g.S.Source.scene c.args.source.now in
-    let n = c.moments-moments.result in
-    let lawful = subst (λ v. Lawful v s.rows) (sym c.moments-moments.ensures) s.lawful in
+    let p = c.loop-leader.placing in
+    let r = p.reached.now in
+    let is = ap (λ v. g.S.Source.scene v.source.now) c.loop-leader.invariant.0 in
     record {
-      order = subst (λ v. Ordered v s.rows c.loop-leader.entries c.loop-leader.places) c.moments-moments.ensures
-          (state_done n s.rows lawful.own lawful.few (reaches c.args.closure.now.rows) c.requires.0 (reaches c.args.back.now.rows) c.requires.1.0
-          c.args.entries.now c.loop-leader.entries (holds c.loop-leader.placed) c.loop-leader.places c.loop-leader.invariant c.in_default.ensures);
-      rest = subst (λ v. Beyond v c.args.entries.now c.loop-leader.entries) c.moments-moments.ensures c.loop-leader.invariant.rest;
+      order = last_state (g.S.Source.scene r.source.now) _ is (reaches r.closure.matrix.rows) r.tells (reaches p.back.matrix.rows) p.back_tells
+          c.args.entries.now c.loop-leader.entries (holds p.placed) c.loop-leader.places c.in_default.ensures c.loop-leader.invariant.1;
+      rest = c.loop-leader.invariant.1.rest;
     }

@@ -1,38 +1,23 @@
-use Rattle.std.proofs.Common.{refl, inl, inr, arith}
-use Rattle.graph.specs.Reaching.{reaches}
-use Rattle.graph.proofs.ByHand.{worked}
+use Rattle.std.proofs.Common.{◌≡◌, MatchOption, subst, arith}
+use Rattle.scene.specs.Scenes.{Agree, Clash}
+use Rattle.graph.specs.Orders.{Ordered}
 use Rattle.graph.proofs.Outcome.{one_order, ordered_owed}
 use Rattle.graph.proofs.order.write_order.Goals as goal
 
-pub returns-then-entries-moments : goal.returns-then-entries-moments
-returns-then-entries-moments g c = record {
-  answer = inl (refl, omega (arith, c.if-entries-moments.true, c.moments.ensures));
-  list = refl;
-  one = one_order (g.S.Source.scene c.args.source.now);
-  worked = worked;
-}
+pub returns-then-entries-moments-clause-one : goal.returns-then-entries-moments-clause-one
+returns-then-entries-moments-clause-one g c = one_order (g.S.Source.scene c.args.source.now)
 
-pub returns-in_default : goal.returns-in_default
-returns-in_default g c = record {
-  answer = inr ((λ h. omega (arith, h, c.if-entries-moments.false, c.moments.ensures)), inl (refl, c.in_default.ensures));
-  list = refl;
-  one = one_order (g.S.Source.scene c.args.source.now);
-  worked = worked;
-}
+pub returns-in_err-reached-clause-one : goal.returns-in_err-reached-clause-one
+returns-in_err-reached-clause-one g c = one_order (g.S.Source.scene c.args.source.now)
 
-pub returns : goal.returns
-returns g c =
+pub returns-clause-one : goal.returns-clause-one
+returns-clause-one g c = one_order (g.S.Source.scene c.args.source.now)
+
+pub returns-clause-answer : goal.returns-clause-answer
+returns-clause-answer g c =
     let s = g.S.Source.scene c.args.source.now in
-    let e = c.in-Some.ensures in
     let es = c.place_all.new.entries in
     let k = c.place_all.result in
-    let o = c.place_all.ensures.order in
-    record {
-      answer = (
-        ((λ h. omega (arith, h, c.if-entries-moments.false, c.moments.ensures)), ((λ h. h e.0), tt)),
-        ordered_owed s (reaches c.in-Some.closure.rows) e.1 es k o e.0,
-      );
-      list = c.place_all.ensures.rest;
-      one = one_order s;
-      worked = worked;
-    }
+    let e = subst (λ o. MatchOption o (Clash s.rows) (λ r. Agree s.rows × (r.source.now ≡ c.args.source.now))) c.in_ok-reached.ensures.ok_part c.without_clash.ensures in
+    let o = subst (λ v. Ordered (g.S.Source.scene v).moments (g.S.Source.scene v).rows es k) e.1 c.place_all.ensures.order in
+    (((λ h. omega (arith, h, c.if-entries-moments.false, c.moments.ensures)), ((λ h. h e.0), tt)), ordered_owed s es k o e.0)

@@ -7,7 +7,7 @@ use Rattle.graph.proofs.closure.Closure.add_step.Goals as goal
 
 pub returns-then-reaches : goal.returns-then-reaches
 returns-then-reaches c =
-    let t = reaches c.args.self.now.rows in
+    let t = reaches c.args.self.now.matrix.rows in
     let p : c.args.from < 256 = omega arith in
     let q : c.args.to < 256 = omega arith in
     let known : Same t (grown t c.args.from c.args.to) = grown_known t t c.args.from c.args.to p q c.args.self.now.joins (sym c.if-reaches.ensures) in
@@ -18,8 +18,8 @@ returns-then-reaches c =
 
 pub invariant_of-self : goal.invariant_of-self
 invariant_of-self c =
-    let t = reaches c.args.self.now.rows in
-    let u = reaches c.grow.new.rows in
+    let t = reaches c.args.self.now.matrix.rows in
+    let u = reaches c.grow.new.self.rows in
     let p : c.args.from < 256 = omega arith in
     let q : c.args.to < 256 = omega arith in
     let joins = c.args.self.now.joins in
@@ -30,8 +30,8 @@ invariant_of-self c =
 
 pub returns : goal.returns
 returns c =
-    let t = reaches c.args.self.now.rows in
-    let u = reaches c.grow.new.rows in
+    let t = reaches c.args.self.now.matrix.rows in
+    let u = reaches c.grow.new.self.rows in
     let p : c.args.from < 256 = omega arith in
     let q : c.args.to < 256 = omega arith in
     record {

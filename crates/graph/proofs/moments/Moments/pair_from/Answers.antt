@@ -1,4 +1,4 @@
-use Rattle.std.proofs.Common.{◌≡◌, ◌+◌, ◌/◌, ◌%◌, ◌^◌, get_or, subst₂, arith}
+use Rattle.std.proofs.Common.{◌≡◌, ◌+◌, ◌/◌, ◌%◌, ◌^◌, get_or, subst₂, ap, ◌∙◌, arith}
 use lib.Bits.{bit_and}
 use Rattle.graph.specs.Sets.{bit, pair}
 use Rattle.graph.proofs.BitLaws.{pair_bits}
@@ -11,4 +11,5 @@ returns c =
     let word : first / 64 ≡ (first + 1) / 64 = omega (arith, c.requires) in
     let place : first % 64 + 1 ≡ (first + 1) % 64 = omega (arith, c.requires) in
     let v = get_or words (first / 64) 0 in
-    subst₂ (λ i j. bit_and (v / 2 ^ (first % 64)) 3 ≡ pair (bit v (first % 64)) (bit (get_or words i 0) j)) word place (pair_bits v (first % 64))
+    ap (λ w. bit_and w 3) c.word_from.ensures
+    ∙ subst₂ (λ i j. bit_and (v / 2 ^ (first % 64)) 3 ≡ pair (bit v (first % 64)) (bit (get_or words i 0) j)) word place (pair_bits v (first % 64))

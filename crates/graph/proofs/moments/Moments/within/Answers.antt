@@ -1,14 +1,37 @@
-use Rattle.std.proofs.Common.{◌/◌, ◌%◌, ◌^◌, ◌<◌, get_or, refl, arith, rules}
+use Rattle.std.proofs.Common.{◌≡◌, ℕ, ◌+◌, ◌/◌, ◌%◌, ◌^◌, ◌<◌, length, get_or, sym, refl, subst, arith, rules, below_more}
+use lib.Bits.{bit_or}
 use Rattle.std.proofs.lemmas.Bool.{false≢true}
+use Rattle.std.proofs.lemmas.List.{length_push}
+use Rattle.std.proofs.lemmas.Slice.Zip.{zip_turn, zip_end}
 use Rattle.graph.proofs.BitLaws.{words_within, within_or}
 use Rattle.graph.proofs.moments.Moments.within.Goals as goal
 
-pub returns-then-self-i : goal.returns-then-self-i
-returns-then-self-i c =
-    let fits : get_or c.args.self.now.words c.loop-i.i 0 < 2 ^ 64 = search rules in (
+pub loop-word-preserved : goal.loop-word-preserved
+loop-word-preserved c = λ j l.
+    let a = c.args.self.words in
+    let b = c.args.other.words in
+    let n = length c.loop-word.yielded in
+    let t = zip_turn a b c.loop-word.yielded c.into_iter-word-iterator.result c.loop-word.word-iterator c.next.new.self c.next.result (cc) (cc) c.loop-word.yielded_by (c.in-Some.word, c.in-Some.wider) c.in-Some.is c.next.ensures.steps in
+    let here : bit_or (get_or a n 0) (get_or b n 0) ≡ get_or b n 0 = rw (← t.2 0, ← t.3 0) c.if-word-wider.false in
+    below_more (λ i. bit_or (get_or a i 0) (get_or b i 0) ≡ get_or b i 0) n c.loop-word.invariant here j (omega (arith, length_push c.loop-word.yielded (c.in-Some.word, c.in-Some.wider)))
+
+pub returns-then-word-wider : goal.returns-then-word-wider
+returns-then-word-wider c =
+    let a = c.args.self.words in
+    let b = c.args.other.words in
+    let n = length c.loop-word.yielded in
+    let t = zip_turn a b c.loop-word.yielded c.into_iter-word-iterator.result c.loop-word.word-iterator c.next.new.self c.next.result (cc) (cc) c.loop-word.yielded_by (c.in-Some.word, c.in-Some.wider) c.in-Some.is c.next.ensures.steps in
+    let long : length a ≡ 4 = search rules in
+    let fits : c.in-Some.word.now < 2 ^ 64 = search rules in (
       λ e. absurd (false≢true e),
-      λ each. absurd (c.if-self-i.true (words_within c.args.self.now.words c.args.other.now.words c.loop-i.i (omega arith) fits each)),
+      λ each. absurd (c.if-word-wider.true (rw (t.2 0, t.3 0) (words_within a b n (omega arith) (subst (λ v. v < 2 ^ 64) (t.2 0) fits) each))),
     )
 
 pub returns : goal.returns
-returns c = (λ _ k h e. within_or (get_or c.args.self.now.words (k / 64) 0) (get_or c.args.other.now.words (k / 64) 0) (k % 64) (c.loop-i.invariant (k / 64) (omega arith)) e, λ _. refl)
+returns c =
+    let a = c.args.self.words in
+    let b = c.args.other.words in
+    let long : length a ≡ 4 = search rules in
+    let long-b : length b ≡ 4 = search rules in
+    let all = zip_end a b c.loop-word.yielded c.into_iter-word-iterator.result c.loop-word.word-iterator c.next.new.self c.next.result (cc) (cc) c.loop-word.yielded_by c.in-None.is c.next.ensures.steps in
+    (λ _ k h e. within_or (get_or a (k / 64) 0) (get_or b (k / 64) 0) (k % 64) (c.loop-word.invariant (k / 64) (omega arith)) e, λ _. refl)

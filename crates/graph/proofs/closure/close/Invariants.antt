@@ -1,8 +1,0 @@
-use Rattle.std.proofs.Common.{◌*◌, List}
-use Rattle.algebra.specs.Placements.{Row}
-use Rattle.graph.specs.Reaching.{TellsSteps, reaches}
-use Rattle.graph.specs.Within.{TellsWithin}
-use Rattle.graph.proofs.closure.close.Given as goal
-
-abbrev pub invariant-loop-pair : goal.invariant-loop-pair
-invariant-loop-pair l = (rs : List Row) → TellsSteps (reaches l.initial.rows) rs → TellsWithin (reaches l.rows) rs (2 * l.pair)
