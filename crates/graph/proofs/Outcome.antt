@@ -2,7 +2,7 @@
 use Rattle.std.proofs.Common.{◌≡◌, ℕ, ◌+◌, ◌-◌, ◌≤◌, List, ◌++◌, drop, take, length, get_or, sym, ap, ◌∙◌, subst, arith}
 use Rattle.std.proofs.lemmas.List.{get_or_append_left, get_or-append_right, get_or-drop, length-append, length-drop, length-take-le}
 use Rattle.algebra.specs.Placements.{Row}
-use Rattle.scene.specs.Scenes.{Agree, Scene}
+use Rattle.scene.specs.Scenes.{Agree, Lawful, Scene}
 use Rattle.graph.specs.declared.order.Entry.{Entry}
 use Rattle.graph.specs.Orders.{Beyond, EntryOf, MostPlaces, OneOrder, Ordered, Owed, blank}
 use Rattle.graph.proofs.Counting.{counts_places}
@@ -13,19 +13,17 @@ use Rattle.graph.proofs.Readiness.{one_ready}
 use Rattle.graph.proofs.Sequences.{turns_sequence}
 use Rattle.graph.proofs.Tables.{table, table_tells}
 
-pub one_order : (s : Scene) → OneOrder s
-one_order s =
-    let law = s.lawful in
-    (one_ready s.moments s.rows law.own law.few (table s.rows) (table_tells s.moments s.rows law.few law.own), one_sequence s.moments s.rows)
+pub one_order : (s : Scene) → Lawful s → OneOrder s
+one_order s law = (one_ready s.moments s.rows law.own law.few (table s.rows) (table_tells s.moments s.rows law.few law.own), one_sequence s.moments s.rows)
 
-pub ordered_owed : (s : Scene) (es : List Entry) (count : ℕ) → Ordered s.moments s.rows es count → Agree s.rows → Owed s es count
-ordered_owed s es count o agree =
+pub ordered_owed : (s : Scene) → Lawful s → (es : List Entry) (count : ℕ) → Ordered s.moments s.rows es count → Agree s.rows → Owed s es count
+ordered_owed s law es count o agree =
     let n = s.moments in
     let rs = s.rows in
     record {
       ordered = o;
       counted = counts_places n rs es count o;
-      obeyed = turns_obey n rs s.lawful.own s.lawful.few (table rs) (table_tells n rs s.lawful.few s.lawful.own) o.0 (turns_sequence n rs o.1.0.0) es o.1.2 agree;
+      obeyed = turns_obey n rs law.own law.few (table rs) (table_tells n rs law.few law.own) o.0 (turns_sequence n rs o.1.0.0) es o.1.2 agree;
       most = subst (λ k. MostPlaces n rs k) o.1.1 (most_places n rs o.0 o.1.0.1);
     }
 

@@ -4,7 +4,7 @@ use Rattle.std.specs.List.{slice_get}
 use Rattle.std.proofs.lemmas.List.{length_push}
 use Rattle.std.proofs.lemmas.Bool.{cases_Bool, cond-true, cond-false, not-true, not_from_false, not_from_true, or_left, both_ways}
 use Rattle.algebra.specs.Placements.{Row}
-use Rattle.scene.specs.Scenes.{Scene, all_fit}
+use Rattle.scene.specs.Scenes.{Scene, Lawful, all_fit}
 use Rattle.graph.specs.declared.order.Entry.{Entry}
 use Rattle.graph.specs.Free.{Free, Grouped, LowestFree}
 use Rattle.graph.specs.Orders.{Beyond, Ordered, EntryOf, blank}
@@ -111,13 +111,13 @@ module _ (n : ℕ) (rs : List Row) (own : all_fit n rs ≡ true) (few : n ≤ 25
       }
 
 -- the same of scenes that are one: what a turn leads to, and where the turns end
-module _ (s r : Scene) (is : s ≡ r) (t : ℕ → ℕ → Bool) (tells : ∥ Tells t s.rows ∥₁) (b : ℕ → ℕ → Bool) (back : ∥ Tells b (turned_scene s).rows ∥₁)
+module _ (s r : Scene) (law : Lawful s) (is : s ≡ r) (t : ℕ → ℕ → Bool) (tells : ∥ Tells t s.rows ∥₁) (b : ℕ → ℕ → Bool) (back : ∥ Tells b (turned_scene s).rows ∥₁)
     (old new : List Entry) (marked : ℕ → Bool) (places : ℕ) where
   forth : Tells t s.rows
-  forth = tells_again s.moments s.rows s.lawful t tells
+  forth = tells_again s.moments s.rows law t tells
 
   back_again : Tells b (map turned s.rows)
-  back_again = tells_again s.moments (map turned s.rows) (turned_lawful s) b back
+  back_again = tells_again s.moments (map turned s.rows) (turned_lawful s law) b back
 
   pub next_state : (m : ℕ) → LowestFree t b marked s.moments (Some m) → (later : List Entry) (more : ℕ → Bool) (n : ℕ) → n ≡ r.moments
       → Grouped t n m (record { place = places + 1; leader = m }) new later
@@ -128,11 +128,11 @@ module _ (s r : Scene) (is : s ≡ r) (t : ℕ → ℕ → Bool) (tells : ∥ Te
       let same : n ≡ s.moments = long ∙ ap (λ v. v.moments) (sym is) in
       let w = subst (λ k. Grouped t k m (record { place = places + 1; leader = m }) new later) same written in
       let k = subst (λ j. (v : ℕ) → v < 256 → more v ≡ (marked v || (ltb v j && (t m v && t v m)))) same marks in
-      let law = s.lawful in (
+      (
         state_turn s.moments s.rows law.own law.few t forth b back_again old new marked places st m free.0 free.1 free.2 later more w k,
         state_fewer s.moments s.rows law.own law.few t forth b back_again old new marked places st m free.0 free.1 free.2 later more w k,
       ))
 
   pub last_state : LowestFree t b marked s.moments None → State r.moments r.rows old new marked places → Ordered r.moments r.rows new places
   last_state none = subst (λ v. State v.moments v.rows old new marked places → Ordered v.moments v.rows new places) is (λ st.
-      state_done s.moments s.rows s.lawful.own s.lawful.few t forth b back_again old new marked places st none)
+      state_done s.moments s.rows law.own law.few t forth b back_again old new marked places st none)

@@ -34,10 +34,10 @@ map_none f (y ∷ xs) zero e = let z : ◌≡◌ {A = ℕ} 0 1 = cc in absurd (o
 map_none f (y ∷ xs) (suc k) e = map_none f xs k e
 
 -- the moments of a row that a lawful scene has are below 256
-pub row_small : (n : ℕ) (rs : List Row) (i : ℕ) (r : Row) → Lawful n rs → Some r ≡ slice_get rs i → (r.0 < 256) × (r.2 < 256)
+pub row_small : (n : ℕ) (rs : List Row) (i : ℕ) (r : Row) → Lawful (record { moments = n; rows = rs }) → Some r ≡ slice_get rs i → (r.0 < 256) × (r.2 < 256)
 row_small n rs i r lawful e = let own = own_row n rs i r lawful.own e in let few = lawful.few in (omega (arith, own.left), omega (arith, own.right))
 
-pub lawful_inside : (n : ℕ) (rs : List Row) → Lawful n rs → Inside rs
+pub lawful_inside : (n : ℕ) (rs : List Row) → Lawful (record { moments = n; rows = rs }) → Inside rs
 lawful_inside n rs lawful x y s = let p = step_inside n rs lawful.own x y s in let few = lawful.few in (omega (arith, p.0), omega (arith, p.1))
 
 -- the steps of rows with one more at the end

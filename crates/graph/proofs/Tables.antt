@@ -97,7 +97,7 @@ table_tells n (r ∷ rs) few own =
     right_row (table rs) (Step rs) r (omega (arith, e.0)) (omega (arith, e.1)) (table_tells n rs few p.1)
 
 -- a table that is known to tell of the paths does so by this one
-pub tells_again : (n : ℕ) (rs : List Row) → Lawful n rs → (t : ℕ → ℕ → Bool) → ∥ Tells t rs ∥₁ → Tells t rs
+pub tells_again : (n : ℕ) (rs : List Row) → Lawful (record { moments = n; rows = rs }) → (t : ℕ → ℕ → Bool) → ∥ Tells t rs ∥₁ → Tells t rs
 tells_again n rs lawful t told =
     let known = table_tells n rs lawful.few lawful.own in
     same_tells t (table rs) (λ x y hx hy. ∥∥₁_elim told (Bool-set _ _) (λ tells. same_from_decides (t x y) (table rs x y) (tells x y hx hy) (known x y hx hy))) known

@@ -20,12 +20,10 @@ turned_fit n (r ∷ rs) h =
     and_from (names n (turned r) && ranged r) (all_fit n (map turned rs))
     (and_from (names n (turned r)) (ranged r) (and_from (nat_lt r.2 n) (nat_lt r.0 n) s.1 s.0) q.1) (turned_fit n rs p.1)
 
--- a lawful scene is so with its rows turned
-pub turned_lawful : (s : Scene) → Lawful s.moments (map turned s.rows)
-turned_lawful s =
-    let l = s.lawful in
-    record { some = l.some; few = l.few; short = omega (arith, length-map s.rows turned, l.short); own = turned_fit s.moments s.rows l.own }
-
 -- the scene with each row turned
 abbrev pub turned_scene : Scene → Scene
-turned_scene s = record { moments = s.moments; rows = map turned s.rows; lawful = turned_lawful s }
+turned_scene s = record { moments = s.moments; rows = map turned s.rows }
+
+-- a lawful scene is so with its rows turned
+pub turned_lawful : (s : Scene) → Lawful s → Lawful (turned_scene s)
+turned_lawful s l = record { some = l.some; few = l.few; short = omega (arith, length-map s.rows turned, l.short); own = turned_fit s.moments s.rows l.own }

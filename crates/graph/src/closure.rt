@@ -8,7 +8,7 @@ ghost use Rattle.graph.specs.Reaching.{Inside, Joins, Selfs, Tells, TellsMore, T
 
 use crate::moments::Moments;
 use algebra::points::Relation;
-use scene::sources::Source;
+use scene::sources::{Row, Source};
 
 // For each of 256 moments, the set of moments that it leads to.
 #[derive(Clone, Copy)]
@@ -99,12 +99,13 @@ impl Matrix {
     }
 
     // Adds the steps of a row. By `put_if`: an `if` around `put` makes consistency up to two fifths slower.
-    fn put_steps(&mut self, row: (u8, u8, u8))
+    fn put_steps(&mut self, row: Row)
+        requires { (row.0 < 256) × (row.2 < 256) }
         ensures { (x y : ℕ) → x < 256 → y < 256 → reaches self.new.rows x y ≡ stepped row (reaches self.old.rows) x y }
     {
         let (left, set, right) = row;
-        self.rows[left as usize].put_if(!Relation::After.is_in(set), right);
-        self.rows[right as usize].put_if(!Relation::Before.is_in(set), left);
+        self.rows[left as usize].put_if(!Relation::After.is_in(set), right as u8);
+        self.rows[right as usize].put_if(!Relation::Before.is_in(set), left as u8);
     }
 
     // Each moment with those that one step leads to.
@@ -112,10 +113,8 @@ impl Matrix {
         ensures { TellsSteps (reaches result.rows) (S.scene source.now).rows }
     {
         let mut matrix = Matrix::alone();
-        for position in 0..source.count() {
-            if let Some(row) = byte_row(source, position) {
-                matrix.put_steps(row);
-            }
+        for row in source.rows() {
+            matrix.put_steps(row);
         }
         matrix
     }
@@ -145,12 +144,4 @@ impl Matrix {
             self.pass_pair(2 * pair);
         }
     }
-}
-
-// The row at a position. Its moments are below 256, so that each is a byte.
-pub(crate) fn byte_row<S: Source>(source: &S, position: usize) -> Option<(u8, u8, u8)>
-    ensures { result ≡ slice_get (S.scene source.now).rows position }
-{
-    let (left, set, right) = source.row(position)?;
-    Some((left as u8, set, right as u8))
 }

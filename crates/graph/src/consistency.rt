@@ -1,14 +1,14 @@
 // Whether some placement obeys the rows of a source.
-ghost use Rattle.std.specs.Prelude.{◌≡◌, not, ◌&&◌, Decides, MatchOption};
+ghost use Rattle.std.specs.Prelude.{◌≡◌, ◌<◌, not, ◌&&◌, Decides, MatchOption};
 ghost use Rattle.algebra.specs.Points.{has};
 ghost use Rattle.algebra.specs.declared.points.Relation.TheVariants.{Together};
 ghost use Rattle.scene.specs.Scenes.{Agree, Clash};
 ghost use Rattle.graph.specs.Clashes.{ClashTheorem, SomeImpossible};
 ghost use Rattle.graph.specs.Reaching.{Tells, reaches};
 
-use crate::closure::{Closure, byte_row};
+use crate::closure::Closure;
 use algebra::points::Relation;
-use scene::sources::Source;
+use scene::sources::{Row, Source};
 
 // A source, and what the steps of its rows reach.
 #[derive(Drop)]
@@ -29,22 +29,21 @@ impl<'a, S: Source> Reached<'a, S> {
     }
 
     // Whether a row lacks together and has both ends in one group.
-    fn is_impossible(&self, row: (u8, u8, u8)) -> bool
+    fn is_impossible(&self, row: Row) -> bool
+        requires { (row.0 < 256) × (row.2 < 256) }
         ensures { result ≡ (not (has row.1 Together) && (reaches self.now.closure.matrix.rows row.0 row.2 && reaches self.now.closure.matrix.rows row.2 row.0)) }
     {
         let (left, set, right) = row;
-        !Relation::Together.is_in(set) && self.closure.same_group(left, right)
+        !Relation::Together.is_in(set) && self.closure.same_group(left as u8, right as u8)
     }
 
     // Whether some row of the source is so.
     fn has_impossible_row(&self) -> bool
         ensures { Decides result (SomeImpossible (S.scene self.now.source.now).rows (S.scene self.now.source.now).rows) }
     {
-        for position in 0..self.source.count() {
-            if let Some(row) = byte_row(self.source, position) {
-                if self.is_impossible(row) {
-                    return true;
-                }
+        for row in self.source.rows() {
+            if self.is_impossible(row) {
+                return true;
             }
         }
         false

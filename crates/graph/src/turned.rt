@@ -1,5 +1,5 @@
 // A source whose rows are read from right to left, so that each step leads the other way.
-ghost use Rattle.graph.specs.Turned.{turned_scene};
+ghost use Rattle.graph.specs.Turned.{turned_lawful, turned_scene};
 
 use scene::sources::{Row, Source};
 
@@ -10,6 +10,8 @@ pub struct Turned<'a, S> {
 
 impl<'a, S: Source> Source for Turned<'a, S> {
     ghost scene = { λ t. turned_scene (S.scene t.below.now) };
+
+    ghost lawful = { λ t. turned_lawful (S.scene t.below.now) (S.lawful t.below.now) };
 
     fn moments(&self) -> u16 {
         self.below.moments()

@@ -18,6 +18,17 @@ module _ {S : Type 0} (scene : S → Scene) where
   pub all_rows : {it : Rows S} (s : S) → it.source.now ≡ s → it.position ≡ 0 → YieldsList (YieldsFirst rest) (λ x. x) it (scene s).rows
   all_rows {it} s same start = YieldsList-from_first (λ x. x) rest (scene s).rows (λ i. drop (start i) (scene (same i)).rows)
 
+  -- the row of a turn stands behind those taken so far, and at the end all were taken
+  pub row_turn : {it : Rows S} (s : S) → YieldsList (YieldsFirst rest) (λ x. x) it (scene s).rows → (xs : List Row) (t : Rows S) → Yields (YieldsFirst rest) it xs t
+      → (r : Option Row) (u : Rows S) (row : Row) → r ≡ Some row → YieldsFirst rest t r u → (length xs < length (scene s).rows) × (Some row ≡ slice_get (scene s).rows (length xs))
+  row_turn s all xs t y r u row is steps =
+      let turn = YieldsList-turn all xs t y r u row is steps in
+      (turn.0, ap Some turn.1 ∙ sym (slice_get-get_or (scene s).rows (length xs) row turn.0))
+
+  pub row_end : {it : Rows S} (s : S) → YieldsList (YieldsFirst rest) (λ x. x) it (scene s).rows → (xs : List Row) (t : Rows S) → Yields (YieldsFirst rest) it xs t
+      → (r : Option Row) (u : Rows S) → r ≡ None → YieldsFirst rest t r u → length xs ≡ length (scene s).rows
+  row_end s all xs t y r u is steps = (YieldsList-end all xs t y r u is steps).1
+
   -- the same, each with its position
   pub all_numbered : {it : _} (s : S) → (enumerate_source {I = Rows S} it).source.now ≡ s → (enumerate_source {I = Rows S} it).position ≡ 0 → enumerate_count it ≡ 0
       → YieldsList {B = ℕ × Row} (enumerate_steps (YieldsFirst rest)) (λ p. (p.0, p.1)) it (enumerate_from 0 (scene s).rows)

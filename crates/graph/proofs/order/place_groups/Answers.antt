@@ -10,14 +10,14 @@ loop-leader-init g c =
     (c.new-placing.ensures.same, state_start s.moments s.rows c.args.entries.now (holds c.new-placing.result.placed) c.new-placing.ensures.none)
 
 pub overflow_add-places : goal.overflow_add-places
-overflow_add-places g c = omega (arith, c.loop-leader.invariant.1.left, (g.S.Source.scene c.args.reached.now.source.now).lawful.few)
+overflow_add-places g c = omega (arith, c.loop-leader.invariant.1.left, (g.met.S.Source.lawful c.args.reached.now.source.now).few)
 
 pub loop-leader-smaller : goal.loop-leader-smaller
 loop-leader-smaller g c =
     let p = c.loop-leader.placing in
     let r = p.reached.now in
     let is = ap (λ v. g.S.Source.scene v.source.now) c.loop-leader.invariant.0 in
-    (next_state (g.S.Source.scene r.source.now) _ is (reaches r.closure.matrix.rows) r.tells (reaches p.back.matrix.rows) p.back_tells
+    (next_state (g.S.Source.scene r.source.now) _ (g.met.S.Source.lawful r.source.now) is (reaches r.closure.matrix.rows) r.tells (reaches p.back.matrix.rows) p.back_tells
     c.args.entries.now c.loop-leader.entries (holds p.placed) c.loop-leader.places
     c.in-Some.leader c.in-Some.ensures c.place_group.new.entries (holds c.place_group.new.self.placed) _ (c.loop-leader.auto.entries ∙ c.requires)
     c.place_group.ensures.written c.place_group.ensures.marks c.loop-leader.invariant.1).1
@@ -28,7 +28,7 @@ loop-leader-preserved g c =
     let r = p.reached.now in
     let is = ap (λ v. g.S.Source.scene v.source.now) c.loop-leader.invariant.0 in (
       c.place_group.ensures.kept ∙ c.loop-leader.invariant.0,
-      (next_state (g.S.Source.scene r.source.now) _ is (reaches r.closure.matrix.rows) r.tells (reaches p.back.matrix.rows) p.back_tells
+      (next_state (g.S.Source.scene r.source.now) _ (g.met.S.Source.lawful r.source.now) is (reaches r.closure.matrix.rows) r.tells (reaches p.back.matrix.rows) p.back_tells
           c.args.entries.now c.loop-leader.entries (holds p.placed) c.loop-leader.places
           c.in-Some.leader c.in-Some.ensures c.place_group.new.entries (holds c.place_group.new.self.placed) _ (c.loop-leader.auto.entries ∙ c.requires)
           c.place_group.ensures.written c.place_group.ensures.marks c.loop-leader.invariant.1).0,
@@ -40,7 +40,7 @@ returns g c =
     let r = p.reached.now in
     let is = ap (λ v. g.S.Source.scene v.source.now) c.loop-leader.invariant.0 in
     record {
-      order = last_state (g.S.Source.scene r.source.now) _ is (reaches r.closure.matrix.rows) r.tells (reaches p.back.matrix.rows) p.back_tells
+      order = last_state (g.S.Source.scene r.source.now) _ (g.met.S.Source.lawful r.source.now) is (reaches r.closure.matrix.rows) r.tells (reaches p.back.matrix.rows) p.back_tells
           c.args.entries.now c.loop-leader.entries (holds p.placed) c.loop-leader.places c.in_default.ensures c.loop-leader.invariant.1;
       rest = c.loop-leader.invariant.1.rest;
     }

@@ -1,26 +1,32 @@
-use Rattle.std.proofs.Common.{◌+◌, take, sym, ◌∙◌, subst, arith}
-use Rattle.std.proofs.lemmas.List.{take_all}
-use Rattle.scene.proofs.Positions.{nth_there}
+use Rattle.std.proofs.Common.{◌+◌, length, take, sym, ◌∙◌, ap, subst, arith}
+use Rattle.std.proofs.lemmas.List.{length_push, take_all}
+use Rattle.scene.proofs.Rows.{all_rows, row_turn, row_end}
 use Rattle.graph.specs.Reaching.{TellsSteps, reaches}
-use Rattle.graph.proofs.Reading.{steps_more, steps_none}
+use Rattle.graph.proofs.Reading.{row_small, steps_more, steps_none}
 use Rattle.graph.proofs.closure.Matrix.of_steps.Goals as goal
-use Rattle.graph.proofs.closure.Matrix.of_steps.Goals.{in-Some, in_default}
 
-pub loop-position-init : goal.loop-position-init
-loop-position-init g c = steps_none (reaches c.alone-matrix.result.rows) c.alone-matrix.ensures
+pub loop-row-init : goal.loop-row-init
+loop-row-init g c = steps_none (reaches c.alone-matrix.result.rows) c.alone-matrix.ensures
 
-pub loop-position-preserved : goal.loop-position-preserved
-loop-position-preserved g c =
+pub put_steps-requires : goal.put_steps-requires
+put_steps-requires g c =
+    let s = g.S.Source.scene c.args.source.now in
+    let t = row_turn g.S.Source.scene c.args.source.now (all_rows g.S.Source.scene c.args.source.now (cc) (cc))
+    c.loop-row.yielded c.loop-row.row-iterator c.loop-row.yielded_by _ c.next.new.self c.in-Some.row c.in-Some.is c.next.ensures.steps in
+    row_small s.moments s.rows (length c.loop-row.yielded) c.in-Some.row (g.met.S.Source.lawful c.args.source.now) t.1
+
+pub loop-row-preserved : goal.loop-row-preserved
+loop-row-preserved g c =
     let rs = (g.S.Source.scene c.args.source.now).rows in
-    let i = c.loop-position.position in
-    elim c.match-byte_row.branch [
-      | in-Some w ↦ (
-          subst (λ v. TellsSteps (reaches v.rows) (take (i + 1) rs)) (sym w.matrix-is)
-          (steps_more rs i w.in-Some.row (reaches c.loop-position.matrix.rows) (reaches w.put_steps.new.self.rows) (sym w.in-Some.is ∙ c.byte_row.ensures) w.put_steps.ensures c.loop-position.invariant))
-      | in_default w ↦ absurd (nth_there rs i (omega (arith, c.count-position-end.ensures)) (sym w.in_default.is ∙ c.byte_row.ensures))
-    ]
+    let i = length c.loop-row.yielded in
+    let t = row_turn g.S.Source.scene c.args.source.now (all_rows g.S.Source.scene c.args.source.now (cc) (cc))
+    c.loop-row.yielded c.loop-row.row-iterator c.loop-row.yielded_by _ c.next.new.self c.in-Some.row c.in-Some.is c.next.ensures.steps in
+    subst (λ n. TellsSteps (reaches c.put_steps.new.self.rows) (take n rs)) (sym (length_push c.loop-row.yielded c.in-Some.row))
+    (steps_more rs i c.in-Some.row (reaches c.loop-row.matrix.rows) (reaches c.put_steps.new.self.rows) t.1 c.put_steps.ensures c.loop-row.invariant)
 
 pub returns : goal.returns
 returns g c =
     let rs = (g.S.Source.scene c.args.source.now).rows in
-    subst (TellsSteps (reaches c.loop-position.matrix.rows)) (take_all c.loop-position.position rs (omega (arith, c.count-position-end.ensures))) c.loop-position.invariant
+    let all = row_end g.S.Source.scene c.args.source.now (all_rows g.S.Source.scene c.args.source.now (cc) (cc))
+    c.loop-row.yielded c.loop-row.row-iterator c.loop-row.yielded_by _ c.next.new.self c.in-None.is c.next.ensures.steps in
+    subst (TellsSteps (reaches c.loop-row.matrix.rows)) (take_all (length c.loop-row.yielded) rs (omega (arith, all))) c.loop-row.invariant
