@@ -16,9 +16,3 @@ overflow_cast-result-2 g c =
     let r : Row = (c.in_ok-left.left, c.in_ok-left.set, c.in_ok-left.right) in
     let small = row_small s.moments s.rows c.args.position r s.lawful (sym c.in_ok-left.was ∙ c.row.ensures) in
     omega (arith, small.1)
-
-pub returns-in_err-left : goal.returns-in_err-left
-returns-in_err-left g c = c.from_residual.ensures ∙ sym c.in_err-left.was ∙ c.row.ensures
-
-pub returns : goal.returns
-returns g c = sym c.in_ok-left.was ∙ c.row.ensures

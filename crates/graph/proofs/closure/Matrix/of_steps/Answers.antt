@@ -1,13 +1,9 @@
 use Rattle.std.proofs.Common.{◌+◌, take, sym, ◌∙◌, subst, arith}
-use Rattle.std.proofs.lemmas.List.{take_all}
 use Rattle.scene.proofs.Positions.{nth_there}
 use Rattle.graph.specs.Reaching.{TellsSteps, reaches}
-use Rattle.graph.proofs.Reading.{steps_more, steps_none}
+use Rattle.graph.proofs.Reading.{steps_more}
 use Rattle.graph.proofs.closure.Matrix.of_steps.Goals as goal
 use Rattle.graph.proofs.closure.Matrix.of_steps.Goals.{in-Some, in_default}
-
-pub loop-position-init : goal.loop-position-init
-loop-position-init g c = steps_none (reaches c.alone-matrix.result.rows) c.alone-matrix.ensures
 
 pub loop-position-preserved : goal.loop-position-preserved
 loop-position-preserved g c =
@@ -19,8 +15,3 @@ loop-position-preserved g c =
           (steps_more rs i w.in-Some.row (reaches c.loop-position.matrix.rows) (reaches w.put_steps.new.self.rows) (sym w.in-Some.is ∙ c.byte_row.ensures) w.put_steps.ensures c.loop-position.invariant))
       | in_default w ↦ absurd (nth_there rs i (omega (arith, c.count-position-end.ensures)) (sym w.in_default.is ∙ c.byte_row.ensures))
     ]
-
-pub returns : goal.returns
-returns g c =
-    let rs = (g.S.Source.scene c.args.source.now).rows in
-    subst (TellsSteps (reaches c.loop-position.matrix.rows)) (take_all c.loop-position.position rs (omega (arith, c.count-position-end.ensures))) c.loop-position.invariant

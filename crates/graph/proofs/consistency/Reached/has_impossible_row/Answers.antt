@@ -1,9 +1,6 @@
-use Rattle.std.proofs.Common.{sym, refl, ◌∙◌, subst, arith}
-use Rattle.std.proofs.lemmas.List.{take_all}
-use Rattle.std.proofs.lemmas.Bool.{false≢true}
+use Rattle.std.proofs.Common.{sym, refl, ◌∙◌, arith}
 use Rattle.std.proofs.lemmas.Bool.Decides.{not_from_Decides}
 use Rattle.scene.proofs.Positions.{nth_there}
-use Rattle.graph.specs.Clashes.{SomeImpossible}
 use Rattle.graph.specs.Reaching.{reaches}
 use Rattle.graph.proofs.Impossible.{impossible_at, possible_more}
 use Rattle.graph.proofs.Reading.{row_small}
@@ -36,8 +33,3 @@ loop-position-preserved g c =
           possible_more s.rows s.rows i r is c.loop-position.invariant (not_from_Decides (impossible_by t r) told (sym w.is_impossible.ensures ∙ w.if-is_impossible.false)))
       | in_default w ↦ absurd (nth_there s.rows i (omega (arith, c.count-position-end.ensures)) (sym w.in_default.is ∙ c.byte_row.ensures))
     ]
-
-pub returns : goal.returns
-returns g c =
-    let rs = (g.S.Source.scene c.args.self.now.source.now).rows in
-    (λ e. absurd (false≢true e), λ some. absurd (c.loop-position.invariant (subst (SomeImpossible rs) (sym (take_all c.loop-position.position rs (omega (arith, c.count-position-end.ensures)))) some)))
