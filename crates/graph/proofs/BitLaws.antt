@@ -1,5 +1,5 @@
 -- What a bit of a word is, after the operations on words.
-use Rattle.std.proofs.Common.{◌≡◌, ℕ, zero, suc, ◌+◌, ◌-◌, ◌*◌, ◌/◌, ◌%◌, ◌^◌, ◌<◌, ◌≤◌, max, Bool, true, false, ◌&&◌, ◌||◌, eqb, List, length, get_or, set, sym, refl, ap, ◌∙◌, subst, subst₂, inl, inr, arith, get_or-set_other, get_or-set_same}
+use Rattle.std.proofs.Common.{◌≡◌, ℕ, zero, suc, ◌+◌, ◌-◌, ◌*◌, ◌/◌, ◌%◌, ◌^◌, ◌<◌, max, Bool, true, false, ◌&&◌, ◌||◌, eqb, List, length, get_or, set, sym, refl, ap, ◌∙◌, subst, subst₂, inl, inr, arith, get_or-set_other, get_or-set_same}
 use mir.Val.{bool_byte}
 use lib.Bits.{bit_and, bit_or, and_mask, or_zero_r}
 use Rattle.std.specs.Int.{bit_at}
@@ -7,7 +7,7 @@ use Rattle.std.proofs.lemmas.Bool.Decides.{nat_tests}
 use Rattle.std.proofs.lemmas.Bool.{cases_eq, cases_lt, eq-eqb, ne_eqb, eqb-true, or_left}
 use Rattle.std.proofs.lemmas.Nat.{shr-shr, one_shl}
 use Rattle.std.proofs.lemmas.Nat.Bits.{bit_at-lt, bit_at_or, bit_at_and, bit_at_ones, bit_at-zero, bit_at_above, bit_at-pow_same, bit_at-pow_other, same_from_bits}
-use Rattle.scene.proofs.Marking.{or_false}
+use Rattle.std.proofs.Math.Bool.{or-false}
 use Rattle.graph.specs.Sets.{bit, pair}
 
 -- what holds of each of the four words of a set
@@ -43,7 +43,7 @@ bit_set ws m k h = elim (cases_eq (k / 64) (m / 64)) [
       rw (e, get_or-set_same ws (m / 64) (bit_or (get_or ws (m / 64) 0) ((1 * 2 ^ (m % 64)) % 2 ^ 64)) 0 h, one_shl (m % 64) 64 (omega arith), bit_or_lem (get_or ws (m / 64) 0) (2 ^ (m % 64)) (k % 64), bit_one (k % 64) (m % 64))
       (ap (λ b. bit (get_or ws (m / 64) 0) (k % 64) || b) (same_test (k % 64) (m % 64) k m (λ f. omega arith) (λ f. omega arith))))
   | inr ne ↦ (
-      rw (get_or-set_other, ne_eqb k m (λ f. ne (ap (λ v. v / 64) f))) (sym (or_false _)))
+      rw (get_or-set_other, ne_eqb k m (λ f. ne (ap (λ v. v / 64) f))) (sym (or-false _)))
 ]
 
 -- a word in a list, and the others as they were
@@ -61,7 +61,7 @@ bit_put ws true m k h = bit_set ws m k h
 bit_put ws false m k h =
     let w = get_or ws (m / 64) 0 in
     let none : (0 * 2 ^ (m % 64)) % 2 ^ 64 ≡ 0 = omega arith in
-    ap (λ v. bit v (k % 64)) (word_set ws (m / 64) (k / 64) (bit_or w ((0 * 2 ^ (m % 64)) % 2 ^ 64)) h (λ _. ap (bit_or w) none ∙ or_zero_r w)) ∙ sym (or_false _)
+    ap (λ v. bit v (k % 64)) (word_set ws (m / 64) (k / 64) (bit_or w ((0 * 2 ^ (m % 64)) % 2 ^ 64)) h (λ _. ap (bit_or w) none ∙ or_zero_r w)) ∙ sym (or-false _)
 
 -- a word masked by all ones or by none
 pub bit_masked : (told : Bool) (w k : ℕ) → k < 64 → bit (bit_and w ((0 + (2 ^ 64 - bool_byte told)) % 2 ^ 64)) k ≡ (told && bit w k)

@@ -1,6 +1,6 @@
 -- A closed table that takes one more step is closed again.
-use Rattle.std.proofs.Common.{◌≡◌, ℕ, ◌<◌, Bool, true, false, ◌&&◌, eqb, ◌⊎◌, List, Decides, sym, refl, ◌∙◌, inl, inr}
-use Rattle.std.proofs.lemmas.Bool.{or_cases, or_left, or_right, and_parts, and_from, eq-eqb, eqb-true}
+use Rattle.std.proofs.Common.{◌≡◌, ℕ, ◌<◌, Bool, true, false, ◌&&◌, ◌⊎◌, List, Decides, sym, refl, ◌∙◌, inl, inr}
+use Rattle.std.proofs.lemmas.Bool.{or_cases, or_left, or_right, and_parts, and_from}
 use Rattle.std.proofs.lemmas.Bool.Decides.{Decides-at}
 use Rattle.algebra.specs.Placements.{Row}
 use Rattle.graph.specs.Steps.{Path, stay}
@@ -51,16 +51,6 @@ module _ (t u : ℕ → ℕ → Bool) (p q : ℕ) (hp : p < 256) (hq : q < 256) 
 
   pub grown_joins : Same u (grown t p q) → Joins u
   grown_joins is (x, y, z) (hx, hy, hz, a, b) = is x z hx hz ∙ both x y z hx hy hz (ways is x y hx hy a) (ways is y z hy hz b)
-
--- where each moment reaches itself alone
-pub alone_selfs : (u : ℕ → ℕ → Bool) → Same u eqb → Selfs u
-alone_selfs u is x hx = is x x hx hx ∙ eq-eqb x x refl
-
-pub alone_joins : (u : ℕ → ℕ → Bool) → Same u eqb → Joins u
-alone_joins u is (x, y, z) (hx, hy, hz, a, b) =
-    let e = eqb-true x y (sym (is x y hx hy) ∙ a) in
-    let f = eqb-true y z (sym (is y z hy hz) ∙ b) in
-    is x z hx hz ∙ eq-eqb x z (e ∙ f)
 
 -- tables that are one tell of the same paths
 pub same_tells : (u t : ℕ → ℕ → Bool) → Same u t → {E : ℕ → ℕ → Type 0} → ((x y : ℕ) → x < 256 → y < 256 → Decides (t x y) (Path E x y)) → (x y : ℕ) → x < 256 → y < 256 → Decides (u x y) (Path E x y)

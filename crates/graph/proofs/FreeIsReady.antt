@@ -1,6 +1,6 @@
 -- What the code reads from its tables and marks is readiness.
-use Rattle.std.proofs.Common.{◌≡◌, ℕ, ◌<◌, ◌≤◌, Bool, true, false, ◌&&◌, ◌||◌, ltb, List, [], ◌∷◌, ◌++◌, map, Decides, inl, inr, arith}
-use Rattle.std.proofs.lemmas.Bool.{and_parts, and_from, cases_Bool, cases_lt, lt-ltb, ltb-true, or_cases, or_left, or_right}
+use Rattle.std.proofs.Common.{◌≡◌, ℕ, ◌<◌, ◌≤◌, Bool, true, ◌&&◌, ◌||◌, ltb, List, [], ◌∷◌, ◌++◌, map, Decides, inl, inr, arith}
+use Rattle.std.proofs.lemmas.Bool.{and_parts, and_from, cases_Bool, false_from_ne_true, cases_lt, lt-ltb, ltb-true, or_cases, or_left, or_right}
 use Rattle.std.proofs.lemmas.Bool.Decides.{Decides-at, Decides-like, Decides-or, not_from_Decides}
 use Rattle.algebra.specs.Placements.{Row}
 use Rattle.scene.specs.Scenes.{all_fit}
@@ -14,9 +14,6 @@ use Rattle.graph.proofs.Paths.{path_inside}
 use Rattle.graph.proofs.Readiness.{Eligible, eligible_group, eligible_ready, one_eligible}
 use Rattle.graph.proofs.Reversal.{path_turned, turned_path}
 use Rattle.graph.proofs.Sequences.{Closed, ready_eligible}
-
-pub false_from_decides : {P : Type 0} (r : Bool) → Decides r P → (P → ⊥) → r ≡ false
-false_from_decides r d h = elim (cases_Bool r) [ inl e ↦ absurd (h (d.0 e)) | inr e ↦ e ]
 
 module _ (n : ℕ) (rs : List Row) (own : all_fit n rs ≡ true) (few : n ≤ 256) (t : ℕ → ℕ → Bool) (tells : Tells t rs)
     (b : ℕ → ℕ → Bool) (back : Tells b (map turned rs)) (ls : List ℕ) (marked : ℕ → Bool)
@@ -36,7 +33,7 @@ module _ (n : ℕ) (rs : List Row) (own : all_fit n rs ≡ true) (few : n ≤ 25
   pub eligible_free : (m : ℕ) → Eligible n rs ls m → Free t b marked m
   eligible_free m e =
       let hm : m < 256 = omega (arith, e.0) in (
-        false_from_decides (marked m) (marks m hm) e.1,
+        false_from_ne_true (marked m) (λ h. e.1 ((marks m hm).0 h)),
         λ v hv h. elim (cases_Bool (marked v)) [
           | inl k ↦ or_right (t m v) (marked v) k
           | inr k ↦ or_left (t m v) (marked v) ((tells m v hm hv).1 (e.2 v (turned_path rs m v ((back m v hm hv).0 h)) (not_from_Decides (marked v) (marks v hv) k)))

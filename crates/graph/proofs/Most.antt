@@ -1,6 +1,6 @@
 -- No placement that obeys the rows gives more separate numbers than there are places.
 use Rattle.std.proofs.Common.{◌≡◌, ℕ, ◌<◌, ◌≤◌, Bool, false, ◌||◌, eqb, List, [], ◌∷◌, length, Decides, sym, refl, subst, inl, inr, arith}
-use Rattle.std.proofs.lemmas.Bool.{cases_Bool, or_right, true≢false}
+use Rattle.std.proofs.lemmas.Bool.{false_from_ne_true, or_right, true≢false}
 use Rattle.std.proofs.lemmas.Bool.Decides.{Decides-eqb, Decides-or}
 use Rattle.algebra.specs.Placements.{Row, Placement, ObeysAll}
 use Rattle.graph.specs.Orders.{Separate, MostPlaces}
@@ -24,7 +24,7 @@ decides_in j [] = ((λ e. absurd (true≢false (sym e))), (λ h. absurd h))
 decides_in j (k ∷ ks) = Decides-or (eqb j k) (within ks j) (Decides-eqb j k) (decides_in j ks)
 
 out_of : (j : ℕ) (js : List ℕ) → (In j js → ⊥) → within js j ≡ false
-out_of j js h = elim (cases_Bool (within js j)) [ inl e ↦ absurd (h ((decides_in j js).0 e)) | inr e ↦ e ]
+out_of j js h = false_from_ne_true (within js j) (λ e. h ((decides_in j js).0 e))
 
 counted : (k : ℕ) (js : List ℕ) → ((j : ℕ) → In j js → j < k) → Apart js → length js ≤ count (within js) k
 counted k [] below apart = omega arith

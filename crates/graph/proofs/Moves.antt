@@ -2,7 +2,7 @@
 use Rattle.std.proofs.Common.{◌≡◌, ℕ, ◌+◌, ◌<◌, Bool, true, false, cond, ◌&&◌, ◌||◌, eqb, ltb, List, length, get_or, set, sym, refl, ◌∙◌, subst, inl, inr, arith}
 use Rattle.std.proofs.lemmas.List.{length-set, get_or-set_same, get_or-set_other}
 use Rattle.std.proofs.lemmas.Bool.{cases_eq, cases_lt, cond-true, cond-false, eq-eqb, ne_eqb, lt-ltb, le-ltb}
-use Rattle.scene.proofs.Marking.{or_false}
+use Rattle.std.proofs.Math.Bool.{or-true, or-false}
 use Rattle.graph.specs.declared.order.Entry.{Entry}
 use Rattle.graph.specs.Free.{Grouped}
 
@@ -35,17 +35,13 @@ module _ (t : ℕ → ℕ → Bool) (m : ℕ) (e : Entry) (old cur : List Entry)
 abbrev pub Marks : (ℕ → Bool) → (ℕ → Bool) → ℕ → (ℕ → Bool) → Type 0
 Marks P old i cur = (v : ℕ) → v < 256 → cur v ≡ (old v || (ltb v i && P v))
 
-or_true : (b : Bool) → (b || true) ≡ true
-or_true true = refl
-or_true false = refl
-
 same_below : (v i : ℕ) → (v ≡ i → ⊥) → ltb v (i + 1) ≡ ltb v i
 same_below v i ne = elim (cases_lt v i) [ inl lt ↦ lt-ltb v (i + 1) (omega arith) ∙ sym (lt-ltb v i lt) | inr le ↦ le-ltb v (i + 1) (omega arith) ∙ sym (le-ltb v i le) ]
 
 pub marks_set : (P old cur next : ℕ → Bool) (i : ℕ) → P i ≡ true → ((v : ℕ) → v < 256 → next v ≡ (cur v || eqb v i)) → Marks P old i cur → Marks P old (i + 1) next
 marks_set P old cur next i h is m v hv = is v hv ∙ elim (cases_eq v i) [
-  | inl e ↦ rw (e, eq-eqb i i refl, lt-ltb i (i + 1) (omega arith), h, or_true (cur i), or_true (old i))
-  | inr ne ↦ rw (ne_eqb v i ne, or_false (cur v), same_below v i ne) (m v hv)
+  | inl e ↦ rw (e, eq-eqb i i refl, lt-ltb i (i + 1) (omega arith), h, or-true (cur i), or-true (old i))
+  | inr ne ↦ rw (ne_eqb v i ne, or-false (cur v), same_below v i ne) (m v hv)
 ]
 
 pub marks_kept : (P old cur : ℕ → Bool) (i : ℕ) → P i ≡ false → Marks P old i cur → Marks P old (i + 1) cur

@@ -127,8 +127,7 @@ module _ (s r : Scene) (law : Lawful s) (is : s ≡ r) (t : ℕ → ℕ → Bool
   next_state m free later more n long written marks = subst (λ v. State v.moments v.rows old new marked places → State v.moments v.rows old later more (places + 1) × (unmarked more v.moments < unmarked marked v.moments)) is (λ st.
       let same : n ≡ s.moments = long ∙ ap (λ v. v.moments) (sym is) in
       let w = subst (λ k. Grouped t k m (record { place = places + 1; leader = m }) new later) same written in
-      let k = subst (λ j. (v : ℕ) → v < 256 → more v ≡ (marked v || (ltb v j && (t m v && t v m)))) same marks in
-      (
+      let k = subst (λ j. (v : ℕ) → v < 256 → more v ≡ (marked v || (ltb v j && (t m v && t v m)))) same marks in (
         state_turn s.moments s.rows law.own law.few t forth b back_again old new marked places st m free.0 free.1 free.2 later more w k,
         state_fewer s.moments s.rows law.own law.few t forth b back_again old new marked places st m free.0 free.1 free.2 later more w k,
       ))

@@ -1,5 +1,5 @@
 -- Rows read one after another.
-use Rattle.std.proofs.Common.{◌≡◌, ℕ, zero, suc, ◌+◌, ◌<◌, Bool, true, not, ◌&&◌, eqb, ◌⊎◌, List, [], ◌∷◌, ◌++◌, map, take, Some, None, Decides, sym, refl, ap, ◌∙◌, subst, inl, inr, add-one, arith}
+use Rattle.std.proofs.Common.{◌≡◌, ℕ, zero, suc, ◌+◌, ◌<◌, Bool, true, not, ◌&&◌, eqb, ◌⊎◌, List, [], ◌∷◌, ◌++◌, take, Some, Decides, sym, ap, ◌∙◌, subst, inl, inr, add-one, arith}
 use Rattle.std.specs.List.{slice_get}
 use Rattle.std.proofs.lemmas.Bool.{not-true, not_from_false}
 use Rattle.std.proofs.lemmas.Bool.Decides.{Decides-at, Decides-like, Decides-and, Decides-or, Decides-eqb}
@@ -21,17 +21,6 @@ take_suc (y ∷ xs) (suc i) x e = ap (λ v. y ∷ v) (take_suc xs i x e)
 -- the rows up to a position, and the one there
 pub take_nth : {X : Type 0} (xs : List X) (i : ℕ) (x : X) → Some x ≡ slice_get xs i → take (i + 1) xs ≡ take i xs ++ x ∷ []
 take_nth xs i x e = ap (λ k. take k xs) (add-one i) ∙ take_suc xs i x e
-
--- the row at a position of changed rows
-pub map_some : {X Y : Type 0} (f : X → Y) (xs : List X) (k : ℕ) (x : X) → Some x ≡ slice_get xs k → Some (f x) ≡ slice_get (map f xs) k
-map_some f [] k x e = let z : ◌≡◌ {A = ℕ} 0 1 = cc in absurd (omega arith)
-map_some f (y ∷ xs) zero x e = let is : x ≡ y = cc in ap (λ v. Some (f v)) is
-map_some f (y ∷ xs) (suc k) x e = map_some f xs k x e
-
-pub map_none : {X Y : Type 0} (f : X → Y) (xs : List X) (k : ℕ) → None ≡ slice_get xs k → None ≡ slice_get (map f xs) k
-map_none f [] k e = refl
-map_none f (y ∷ xs) zero e = let z : ◌≡◌ {A = ℕ} 0 1 = cc in absurd (omega arith)
-map_none f (y ∷ xs) (suc k) e = map_none f xs k e
 
 -- the moments of a row that a lawful scene has are below 256
 pub row_small : (n : ℕ) (rs : List Row) (i : ℕ) (r : Row) → Lawful (record { moments = n; rows = rs }) → Some r ≡ slice_get rs i → (r.0 < 256) × (r.2 < 256)
@@ -96,7 +85,3 @@ pub steps_more : (rs : List Row) (i : ℕ) (r : Row) (t u : ℕ → ℕ → Bool
 steps_more rs i r t u e is tells = subst (TellsSteps u) (sym (take_nth rs i r e)) (λ x y hx hy.
     Decides-at (u x y) (stepped r t x y) (is x y hx hy)
     (Decides-like (stepped r t x y) (from_added (take i rs) r x y) (to_added (take i rs) r x y) (stepped_tells t (take i rs) r x y (tells x y hx hy))))
-
--- where each moment is alone, no row is read
-pub steps_none : (t : ℕ → ℕ → Bool) → Same t eqb → TellsSteps t []
-steps_none t is x y hx hy = Decides-at (t x y) (eqb x y) (is x y hx hy) (Decides-like (eqb x y) (λ e. inl e) (λ d. elim d [ inl e ↦ e | inr s ↦ absurd s ]) (Decides-eqb x y))

@@ -1,4 +1,4 @@
-use Rattle.std.proofs.Common.{◌∙◌, ap, arith}
+use Rattle.std.proofs.Common.{◌∙◌, ap}
 use Rattle.graph.specs.Reaching.{reaches}
 use Rattle.graph.specs.Sets.{holds}
 use Rattle.graph.proofs.Progress.{state_start, next_state, last_state}
@@ -8,9 +8,6 @@ pub loop-leader-init : goal.loop-leader-init
 loop-leader-init g c =
     let s = g.S.Source.scene c.args.reached.now.source.now in
     (c.new-placing.ensures.same, state_start s.moments s.rows c.args.entries.now (holds c.new-placing.result.placed) c.new-placing.ensures.none)
-
-pub overflow_add-places : goal.overflow_add-places
-overflow_add-places g c = omega (arith, c.loop-leader.invariant.1.left, (g.met.S.Source.lawful c.args.reached.now.source.now).few)
 
 pub loop-leader-smaller : goal.loop-leader-smaller
 loop-leader-smaller g c =

@@ -1,5 +1,4 @@
-use Rattle.std.proofs.Common.{◌≡◌, false, eqb, length}
-use Rattle.graph.specs.Reaching.{reaches}
+use Rattle.std.proofs.Common.{◌≡◌, eqb, length}
 use Rattle.graph.proofs.Growth.{Changed}
 use Rattle.graph.proofs.closure.Matrix.alone.Given as goal
 

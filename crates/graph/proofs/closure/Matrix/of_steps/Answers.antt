@@ -1,12 +1,9 @@
-use Rattle.std.proofs.Common.{◌+◌, length, take, sym, ◌∙◌, ap, subst, arith}
+use Rattle.std.proofs.Common.{length, take, sym, subst, arith}
 use Rattle.std.proofs.lemmas.List.{length_push, take_all}
 use Rattle.scene.proofs.Rows.{all_rows, row_turn, row_end}
 use Rattle.graph.specs.Reaching.{TellsSteps, reaches}
-use Rattle.graph.proofs.Reading.{row_small, steps_more, steps_none}
+use Rattle.graph.proofs.Reading.{row_small, steps_more}
 use Rattle.graph.proofs.closure.Matrix.of_steps.Goals as goal
-
-pub loop-row-init : goal.loop-row-init
-loop-row-init g c = steps_none (reaches c.alone-matrix.result.rows) c.alone-matrix.ensures
 
 pub put_steps-requires : goal.put_steps-requires
 put_steps-requires g c =

@@ -1,19 +1,8 @@
-use Rattle.std.proofs.Common.{◌≡◌, ℕ, ◌+◌, ◌/◌, ◌%◌, ◌^◌, ◌<◌, length, get_or, sym, refl, subst, arith, rules, below_more}
-use lib.Bits.{bit_or}
+use Rattle.std.proofs.Common.{◌≡◌, ◌/◌, ◌%◌, ◌^◌, ◌<◌, length, get_or, refl, subst, arith, rules}
 use Rattle.std.proofs.lemmas.Bool.{false≢true}
-use Rattle.std.proofs.lemmas.List.{length_push}
 use Rattle.std.proofs.lemmas.Slice.Zip.{zip_turn, zip_end}
 use Rattle.graph.proofs.BitLaws.{words_within, within_or}
 use Rattle.graph.proofs.moments.Moments.within.Goals as goal
-
-pub loop-word-preserved : goal.loop-word-preserved
-loop-word-preserved c = λ j l.
-    let a = c.args.self.words in
-    let b = c.args.other.words in
-    let n = length c.loop-word.yielded in
-    let t = zip_turn a b c.loop-word.yielded c.into_iter-word-iterator.result c.loop-word.word-iterator c.next.new.self c.next.result (cc) (cc) c.loop-word.yielded_by (c.in-Some.word, c.in-Some.wider) c.in-Some.is c.next.ensures.steps in
-    let here : bit_or (get_or a n 0) (get_or b n 0) ≡ get_or b n 0 = rw (← t.2 0, ← t.3 0) c.if-word-wider.false in
-    below_more (λ i. bit_or (get_or a i 0) (get_or b i 0) ≡ get_or b i 0) n c.loop-word.invariant here j (omega (arith, length_push c.loop-word.yielded (c.in-Some.word, c.in-Some.wider)))
 
 pub returns-then-word-wider : goal.returns-then-word-wider
 returns-then-word-wider c =
