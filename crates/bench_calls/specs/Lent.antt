@@ -3,7 +3,7 @@ use Rattle.std.specs.Prelude.{◌≡◌, ℕ, zero, suc, ◌%◌, true, cond, �
 use Rattle.std.proofs.Common.{ap, arith}
 use Rattle.std.proofs.lemmas.Bool.{and_from, cond_both, eqb-false, le-leb, lt-ltb}
 use Rattle.algebra.specs.Placements.{Row}
-use Rattle.scene.specs.Scenes.{Scene, names, ranged, all_fit}
+use Rattle.scene.specs.Scenes.{Scene, Lawful, names, ranged, all_fit}
 use Rattle.bench_calls.specs.declared.scenes.BenchRow.{BenchRow}
 
 -- a set from 1 to 7 for any byte: its three low bits, and 7 where these are 0
@@ -51,9 +51,7 @@ all_seen_fit rs k (suc n) =
 
 -- the scene of an array of 4,096 rows
 abbrev pub lent : List BenchRow → Scene
-lent rs =
-    record {
-      moments = 256;
-      rows = seen_from rs 0 4096;
-      lawful = record { some = omega arith; few = omega arith; short = omega (arith, length_seen rs 0 4096); own = all_seen_fit rs 0 4096 };
-    }
+lent rs = record { moments = 256; rows = seen_from rs 0 4096 }
+
+pub lent_lawful : (rs : List BenchRow) → Lawful (lent rs)
+lent_lawful rs = record { some = omega arith; few = omega arith; short = omega (arith, length_seen rs 0 4096); own = all_seen_fit rs 0 4096 }

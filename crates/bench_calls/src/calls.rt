@@ -22,8 +22,5 @@ pub extern "C" fn vurkesh_consistent(scene: &BenchScene) -> bool
 pub extern "C" fn vurkesh_order(scene: &BenchScene, entries: &mut [Entry; 256]) -> u16
     ensures { Answered (lent scene.now.rows) entries.old entries.new result }
 {
-    match write_order(scene, entries) {
-        Ok(places) => places,
-        Err(_) => 0,
-    }
+    write_order(scene, entries).unwrap_or(0)
 }

@@ -1,6 +1,7 @@
 // A scene of 256 moments and 4,096 rows that a program in another language lends.
 ghost use Rattle.std.specs.Prelude.{◌≡◌};
-ghost use Rattle.bench_calls.specs.Lent.{inside, seen, lent};
+ghost use Rattle.std.specs.List.{slice_get};
+ghost use Rattle.bench_calls.specs.Lent.{inside, seen, lent, lent_lawful};
 
 use scene::sources::{Row, Source};
 
@@ -26,22 +27,31 @@ fn set_inside(byte: u8) -> u8
     if low == 0 { 7 } else { low }
 }
 
-impl BenchRow {
-    // The row as the scene has it.
-    fn seen(self) -> Row
-        ensures { result ≡ seen self }
-    {
+// The row as the scene has it.
+impl From<BenchRow> for Row {
+    ghost from_gives = { λ b r. r ≡ seen b };
+
+    fn from(row: BenchRow) -> Row {
         (
-            u16::from(self.left),
-            set_inside(self.set),
-            u16::from(self.right),
+            u16::from(row.left),
+            set_inside(row.set),
+            u16::from(row.right),
         )
     }
+}
+
+// The row at a position, as it was lent.
+fn lent_row(rows: &[BenchRow], position: usize) -> Option<BenchRow>
+    ensures { result ≡ slice_get rows.now position }
+{
+    rows.get(position).copied()
 }
 
 // Lawful for any bytes.
 impl Source for BenchScene {
     ghost scene = { λ s. lent s.rows };
+
+    ghost lawful = { λ s. lent_lawful s.rows };
 
     fn moments(&self) -> u16 {
         256
@@ -52,10 +62,7 @@ impl Source for BenchScene {
     }
 
     fn row(&self, position: usize) -> Option<Row> {
-        if position < self.rows.len() {
-            Some(self.rows[position].seen())
-        } else {
-            None
-        }
+        let row = lent_row(&self.rows, position)?;
+        Some(Row::from(row))
     }
 }

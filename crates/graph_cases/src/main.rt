@@ -24,17 +24,15 @@ fn show_entries(rt: &HostRuntime, entries: &[Entry]) -> io::Result<()> {
     println!(rt; "")
 }
 
-// The answers for a table, with a list of so many entries, at most 260.
+// The answers for a table, with a list of so many entries.
 fn show_table(rt: &HostRuntime, name: &str, table: &Table, length: usize) -> io::Result<()> {
-    let agrees = consistent(table);
-    print!(rt; "{name}\t{agrees}")?;
-    let mut entries = [BLANK; 260];
-    let entries = &mut entries[..length.min(260)];
-    match write_order(table, entries) {
+    print!(rt; "{name}\t{}", consistent(table))?;
+    let mut entries = vec![in rt.alloc(); BLANK; length]?;
+    match write_order(table, &mut entries) {
         Ok(places) => print!(rt; "\tplaces\t{places}")?,
         Err(refusal) => print!(rt; "\trefused\t{refusal}")?,
     }
-    show_entries(rt, entries)
+    show_entries(rt, &entries)
 }
 
 // The answers for these rows over the moments up to the last.
@@ -92,12 +90,7 @@ fn show_small(rt: &HostRuntime) -> io::Result<()> {
             3,
         ),
         ("falling", 2, &[(2, 1, 1), (1, 1, 0)], 3),
-        (
-            "after and together or after",
-            2,
-            &[(0, 4, 1), (1, 6, 2)],
-            3,
-        ),
+        ("after and together or after", 2, &[(0, 4, 1), (1, 6, 2)], 3),
         (
             "two groups of two",
             3,
@@ -133,6 +126,7 @@ fn show_ring(rt: &HostRuntime, name: &str, set: u8, back: u8, length: usize) -> 
 }
 
 // A fixed sequence of numbers that look random.
+#[derive(Drop)]
 struct Random {
     seed: u64,
 }
