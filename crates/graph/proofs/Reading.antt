@@ -1,5 +1,5 @@
 -- Rows read one after another.
-use Rattle.std.proofs.Common.{◌≡◌, ℕ, zero, suc, ◌+◌, ◌<◌, Bool, true, not, ◌&&◌, eqb, ◌⊎◌, List, [], ◌∷◌, ◌++◌, take, Some, Decides, sym, ap, ◌∙◌, subst, inl, inr, add-one, arith}
+use Rattle.std.proofs.Common.{◌≡◌, ℕ, zero, suc, ◌+◌, Bool, true, not, ◌&&◌, eqb, ◌⊎◌, List, [], ◌∷◌, ◌++◌, take, Some, Decides, sym, ap, ◌∙◌, subst, inl, inr, add-one, arith}
 use Rattle.std.specs.List.{slice_get}
 use Rattle.std.proofs.lemmas.Bool.{not-true, not_from_false}
 use Rattle.std.proofs.lemmas.Bool.Decides.{Decides-at, Decides-like, Decides-and, Decides-or, Decides-eqb}
@@ -7,7 +7,6 @@ use Rattle.algebra.specs.Placements.{Row}
 use Rattle.algebra.specs.Points.{has}
 use Rattle.algebra.specs.declared.points.Relation.TheVariants.{Before, After}
 use Rattle.scene.specs.Scenes.{Lawful}
-use Rattle.scene.proofs.Owned.{own_row}
 use Rattle.graph.specs.Steps.{Step, StepOf}
 use Rattle.graph.specs.Reaching.{Inside, TellsSteps, put, stepped}
 use Rattle.graph.proofs.Closed.{Same}
@@ -22,10 +21,7 @@ take_suc (y ∷ xs) (suc i) x e = ap (λ v. y ∷ v) (take_suc xs i x e)
 pub take_nth : {X : Type 0} (xs : List X) (i : ℕ) (x : X) → Some x ≡ slice_get xs i → take (i + 1) xs ≡ take i xs ++ x ∷ []
 take_nth xs i x e = ap (λ k. take k xs) (add-one i) ∙ take_suc xs i x e
 
--- the moments of a row that a lawful scene has are below 256
-pub row_small : (n : ℕ) (rs : List Row) (i : ℕ) (r : Row) → Lawful (record { moments = n; rows = rs }) → Some r ≡ slice_get rs i → (r.0 < 256) × (r.2 < 256)
-row_small n rs i r lawful e = let own = own_row n rs i r lawful.own e in let few = lawful.few in (omega (arith, own.left), omega (arith, own.right))
-
+-- steps of a lawful scene are between moments below 256
 pub lawful_inside : (n : ℕ) (rs : List Row) → Lawful (record { moments = n; rows = rs }) → Inside rs
 lawful_inside n rs lawful x y s = let p = step_inside n rs lawful.own x y s in let few = lawful.few in (omega (arith, p.0), omega (arith, p.1))
 

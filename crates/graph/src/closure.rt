@@ -8,7 +8,7 @@ ghost use Rattle.graph.specs.Reaching.{Inside, Joins, Selfs, Tells, TellsMore, T
 
 use crate::moments::Moments;
 use algebra::points::Relation;
-use scene::sources::{Row, Source};
+use scene::sources::{ByteRow, Source};
 
 // For each of 256 moments, the set of moments that it leads to.
 #[derive(Clone, Copy)]
@@ -99,13 +99,12 @@ impl Matrix {
     }
 
     // Adds the steps of a row. By `put_if`: an `if` around `put` makes consistency up to two fifths slower.
-    fn put_steps(&mut self, row: Row)
-        requires { (row.0 < 256) × (row.2 < 256) }
+    fn put_steps(&mut self, row: ByteRow)
         ensures { (x y : ℕ) → x < 256 → y < 256 → reaches self.new.rows x y ≡ stepped row (reaches self.old.rows) x y }
     {
         let (left, set, right) = row;
-        self.rows[left as usize].put_if(!Relation::After.is_in(set), right as u8);
-        self.rows[right as usize].put_if(!Relation::Before.is_in(set), left as u8);
+        self.rows[left as usize].put_if(!Relation::After.is_in(set), right);
+        self.rows[right as usize].put_if(!Relation::Before.is_in(set), left);
     }
 
     // Each moment with those that one step leads to.

@@ -1,5 +1,5 @@
 // Whether some placement obeys the rows of a source.
-ghost use Rattle.std.specs.Prelude.{◌≡◌, ◌<◌, not, ◌&&◌, Decides, MatchOption};
+ghost use Rattle.std.specs.Prelude.{◌≡◌, not, ◌&&◌, Decides, MatchOption};
 ghost use Rattle.algebra.specs.Points.{has};
 ghost use Rattle.algebra.specs.declared.points.Relation.TheVariants.{Together};
 ghost use Rattle.scene.specs.Scenes.{Agree, Clash};
@@ -8,7 +8,7 @@ ghost use Rattle.graph.specs.Reaching.{Tells, reaches};
 
 use crate::closure::Closure;
 use algebra::points::Relation;
-use scene::sources::{Row, Source};
+use scene::sources::{ByteRow, Source};
 
 // A source, and what the steps of its rows reach.
 #[derive(Drop)]
@@ -29,12 +29,11 @@ impl<'a, S: Source> Reached<'a, S> {
     }
 
     // Whether a row lacks together and has both ends in one group.
-    fn is_impossible(&self, row: Row) -> bool
-        requires { (row.0 < 256) × (row.2 < 256) }
+    fn is_impossible(&self, row: ByteRow) -> bool
         ensures { result ≡ (not (has row.1 Together) && (reaches self.now.closure.matrix.rows row.0 row.2 && reaches self.now.closure.matrix.rows row.2 row.0)) }
     {
         let (left, set, right) = row;
-        !Relation::Together.is_in(set) && self.closure.same_group(left as u8, right as u8)
+        !Relation::Together.is_in(set) && self.closure.same_group(left, right)
     }
 
     // Whether some row of the source is so.

@@ -44,7 +44,8 @@ pub fn listing<S: Source>(heap: Global, source: &S) -> Result<String, AllocError
 {
     let moments = source.moments();
     let mut text = format!(in heap; "moments\t{moments}\n")?;
-    for (position, row) in source.rows().enumerate() {
+    for (position, (left, set, right)) in source.rows().enumerate() {
+        let row = (u16::from(left), set, u16::from(right));
         let line = row_text(heap, position, row)?;
         text.push_str(line.as_str())?;
     }

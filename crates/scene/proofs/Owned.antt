@@ -3,7 +3,7 @@ use Rattle.std.proofs.Common.{◌≡◌, ℕ, zero, suc, ◌<◌, ◌≤◌, tru
 use Rattle.std.proofs.lemmas.Bool.{and_parts, ltb-true, leb-true}
 use Rattle.std.specs.List.{slice_get}
 use Rattle.algebra.specs.Placements.{Row}
-use Rattle.scene.specs.Scenes.{names, ranged, all_fit}
+use Rattle.scene.specs.Scenes.{Scene, Lawful, names, ranged, all_fit}
 
 pub record Owned (n : ℕ) (r : Row) : Type 0 where
   pub left : r.0 < n
@@ -25,3 +25,7 @@ own_row n (q ∷ rs) zero r h e =
     let p = and_parts (names n q && ranged q) (all_fit n rs) h in
     let is : q ≡ r = cc in subst (Owned n) is (owned n q p.0)
 own_row n (q ∷ rs) (suc k) r h e = own_row n rs k r (and_parts (names n q && ranged q) (all_fit n rs) h).1 e
+
+-- the moments of a row of a source are below 256
+pub small_ends : (s : Scene) (k : ℕ) (r : Row) → Lawful s → Some r ≡ slice_get s.rows k → (r.0 < 256) × (r.2 < 256)
+small_ends s k r law e = let own = own_row s.moments s.rows k r law.own e in (omega (arith, own.left, law.few), omega (arith, own.right, law.few))

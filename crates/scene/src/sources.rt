@@ -7,6 +7,9 @@ ghost use Rattle.std.specs.List.{slice_get};
 // The left moment, the set of relations, the right moment: plain numbers, as any writer of a source answers them.
 pub type Row = (u16, u8, u16);
 
+// A row of a source: its moments are below 256, so that each is a byte.
+pub type ByteRow = (u8, u8, u8);
+
 // The most moments that a scene may have.
 pub const MOST_MOMENTS: u16 = 256;
 
@@ -52,17 +55,17 @@ pub struct Rows<'a, S> {
 }
 
 impl<'a, S: Source> Iterator for Rows<'a, S> {
-    type Item = Row;
+    type Item = ByteRow;
 
     ghost next_gives = { YieldsFirst (λ r. drop r.position (S.scene r.source.now).rows) };
 
     ghost remaining = { item_count (λ r. drop r.position (S.scene r.source.now).rows) };
 
     #[tactic(auto, using(crate::proofs::Positions::rest_past, crate::proofs::Positions::there_below))]
-    fn next(&mut self) -> Option<Row> {
-        let row = self.source.row(self.position)?;
+    fn next(&mut self) -> Option<ByteRow> {
+        let (left, set, right) = self.source.row(self.position)?;
         self.position += 1;
-        Some(row)
+        Some((left as u8, set, right as u8))
     }
 }
 

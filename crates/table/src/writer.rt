@@ -7,7 +7,7 @@ ghost use Rattle.table.specs.Writings.{row_command, written, over, of_rows, of_r
 
 use crate::commands::{END, ROW, START};
 use scene::refusals::Refusal;
-use scene::sources::{MOST_WORKING_ROWS, Row, Source};
+use scene::sources::{ByteRow, MOST_WORKING_ROWS, Source};
 
 // The number of rows to write.
 fn rows_written<S: Source>(source: &S) -> Result<usize, Refusal>
@@ -33,12 +33,11 @@ fn size_within(rows: usize, room: usize) -> Result<usize, Refusal>
 }
 
 // A row as its command.
-fn row_bytes(row: Row) -> [u8; 4]
-    requires { (row.0 < 256) × (row.2 < 256) }
+fn row_bytes(row: ByteRow) -> [u8; 4]
     ensures { result ≡ encoding (row_command row) }
 {
     let (left, set, right) = row;
-    [ROW, left as u8, set, right as u8]
+    [ROW, left, set, right]
 }
 
 // Writes any source as a table at the start of the list, and answers how many bytes it took.

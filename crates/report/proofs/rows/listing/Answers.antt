@@ -23,10 +23,12 @@ loop-position-preserved g c =
     let source = c.args.source.now in
     let rows = (g.S.Source.scene source).rows in
     let text = string_bytes c.loop-position.text in
+    let row : Row = (c.in-Some.left, c.in-Some.set, c.in-Some.right) in
+    let line : string_bytes c.in_ok-line.line ≡ row_line c.in-Some.position row = c.in_ok-line.ensures ∙ (λ j. row_line c.in-Some.position (c.from.ensures j, c.in-Some.set, c.from-2.ensures j)) in
     let t = numbered_turn g.S.Source.scene source (all_numbered g.S.Source.scene source (cc) (cc) (cc))
-    c.loop-position.yielded c.loop-position.position-iterator c.loop-position.yielded_by _ c.next.new.self c.in-Some.position c.in-Some.row c.in-Some.is c.next.ensures.steps in
-    line_more rows c.in-Some.position (length c.loop-position.yielded) _ c.in-Some.row text (string_bytes c.push_str.new.self) (string_bytes c.in_ok-line.line) _ t
-    (length_push c.loop-position.yielded (c.in-Some.position, c.in-Some.row)) c.in_ok-line.ensures
+    c.loop-position.yielded c.loop-position.position-iterator c.loop-position.yielded_by _ c.next.new.self c.in-Some.position row c.in-Some.is c.next.ensures.steps in
+    line_more rows c.in-Some.position (length c.loop-position.yielded) _ row text (string_bytes c.push_str.new.self) (string_bytes c.in_ok-line.line) _ t
+    (length_push c.loop-position.yielded (c.in-Some.position, row)) line
     (pushed {was = text} _ refl c.in_ok-push_str.was c.push_str.ensures.bytes ∙ ap (λ bs. text ++ bs) c.as_str.ensures.value) c.loop-position.invariant
 
 pub returns : goal.returns

@@ -1,6 +1,5 @@
 use Rattle.std.proofs.Common.{◌≡◌, ◌+◌, ◌-◌, ◌*◌, ◌∷◌, ◌++◌, map, length, take, drop, set, sym, ap, ◌∙◌, subst, arith}
 use Rattle.std.proofs.lemmas.List.{take_all, take_at, length_push}
-use Rattle.scene.proofs.Owned.{own_row}
 use Rattle.scene.proofs.Pile.{at_most}
 use Rattle.scene.proofs.Rows.{all_numbered, numbered_turn, numbered_end}
 use Rattle.table.specs.Commands.{encoded}
@@ -15,15 +14,6 @@ loop-i-init g c =
     let m = c.moments.result - 1 in
     let room = at_most (length xs) (3 + 4 * c.in_ok-count.count) c.in_ok-size.ensures.0.0 in
     header_put xs 16 m (omega arith) ∙ ap (λ n. 16 ∷ (n - 1) ∷ drop 2 (set (set xs 0 16) 1 m)) c.moments.ensures
-
-pub row_bytes-requires : goal.row_bytes-requires
-row_bytes-requires g c =
-    let s = g.S.Source.scene c.args.source.now in
-    let law = g.met.S.Source.lawful c.args.source.now in
-    let t = numbered_turn g.S.Source.scene c.args.source.now (all_numbered g.S.Source.scene c.args.source.now (cc) (cc) (cc))
-    c.loop-i.yielded c.loop-i.i-iterator c.loop-i.yielded_by _ c.next.new.self c.in-Some.i c.in-Some.row c.in-Some.is c.next.ensures.steps in
-    let o = own_row s.moments s.rows (length c.loop-i.yielded) c.in-Some.row law.own t.2 in
-    (omega (arith, law.few, o.left), omega (arith, law.few, o.right))
 
 pub loop-i-preserved : goal.loop-i-preserved
 loop-i-preserved g c =

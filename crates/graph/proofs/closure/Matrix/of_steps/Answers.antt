@@ -2,15 +2,8 @@ use Rattle.std.proofs.Common.{length, take, sym, subst, arith}
 use Rattle.std.proofs.lemmas.List.{length_push, take_all}
 use Rattle.scene.proofs.Rows.{all_rows, row_turn, row_end}
 use Rattle.graph.specs.Reaching.{TellsSteps, reaches}
-use Rattle.graph.proofs.Reading.{row_small, steps_more}
+use Rattle.graph.proofs.Reading.{steps_more}
 use Rattle.graph.proofs.closure.Matrix.of_steps.Goals as goal
-
-pub put_steps-requires : goal.put_steps-requires
-put_steps-requires g c =
-    let s = g.S.Source.scene c.args.source.now in
-    let t = row_turn g.S.Source.scene c.args.source.now (all_rows g.S.Source.scene c.args.source.now (cc) (cc))
-    c.loop-row.yielded c.loop-row.row-iterator c.loop-row.yielded_by _ c.next.new.self c.in-Some.row c.in-Some.is c.next.ensures.steps in
-    row_small s.moments s.rows (length c.loop-row.yielded) c.in-Some.row (g.met.S.Source.lawful c.args.source.now) t.1
 
 pub loop-row-preserved : goal.loop-row-preserved
 loop-row-preserved g c =

@@ -2,22 +2,14 @@ use Rattle.std.proofs.Common.{length, take, sym, refl, ◌∙◌, subst, arith}
 use Rattle.std.proofs.lemmas.List.{length_push, take_all}
 use Rattle.std.proofs.lemmas.Bool.{false≢true}
 use Rattle.std.proofs.lemmas.Bool.Decides.{not_from_Decides}
+use Rattle.scene.proofs.Owned.{small_ends}
 use Rattle.scene.proofs.Rows.{all_rows, row_turn, row_end}
 use Rattle.graph.specs.Clashes.{SomeImpossible}
 use Rattle.graph.specs.Reaching.{reaches}
 use Rattle.graph.proofs.Impossible.{impossible_at, possible_more}
-use Rattle.graph.proofs.Reading.{row_small}
 use Rattle.graph.proofs.Tables.{tells_again}
 use Rattle.graph.proofs.Verdict.{impossible_by, impossible_told}
 use Rattle.graph.proofs.consistency.Reached.has_impossible_row.Goals as goal
-
-pub is_impossible-requires : goal.is_impossible-requires
-is_impossible-requires g c =
-    let source = c.args.self.now.source.now in
-    let s = g.S.Source.scene source in
-    let t = row_turn g.S.Source.scene source (all_rows g.S.Source.scene source (cc) (cc))
-    c.loop-row.yielded c.loop-row.row-iterator c.loop-row.yielded_by _ c.next.new.self c.in-Some.row c.in-Some.is c.next.ensures.steps in
-    row_small s.moments s.rows (length c.loop-row.yielded) c.in-Some.row (g.met.S.Source.lawful source) t.1
 
 pub returns-then-is_impossible : goal.returns-then-is_impossible
 returns-then-is_impossible g c =
@@ -29,7 +21,7 @@ returns-then-is_impossible g c =
     let r = c.in-Some.row in
     let t = row_turn g.S.Source.scene source (all_rows g.S.Source.scene source (cc) (cc))
     c.loop-row.yielded c.loop-row.row-iterator c.loop-row.yielded_by _ c.next.new.self c.in-Some.row c.in-Some.is c.next.ensures.steps in
-    let small = row_small s.moments s.rows i r law t.1 in
+    let small = small_ends s i r law t.1 in
     let told = impossible_told reached s.rows r (tells_again s.moments s.rows law reached c.args.self.now.tells) small.0 small.1 in
     (λ _. impossible_at s.rows s.rows i r t.1 (told.0 (sym c.if-is_impossible.ensures)), λ _. refl)
 
@@ -43,7 +35,7 @@ loop-row-preserved g c =
     let r = c.in-Some.row in
     let t = row_turn g.S.Source.scene source (all_rows g.S.Source.scene source (cc) (cc))
     c.loop-row.yielded c.loop-row.row-iterator c.loop-row.yielded_by _ c.next.new.self c.in-Some.row c.in-Some.is c.next.ensures.steps in
-    let small = row_small s.moments s.rows i r law t.1 in
+    let small = small_ends s i r law t.1 in
     let told = impossible_told reached s.rows r (tells_again s.moments s.rows law reached c.args.self.now.tells) small.0 small.1 in
     subst (λ n. SomeImpossible s.rows (take n s.rows) → ⊥) (sym (length_push c.loop-row.yielded r))
     (possible_more s.rows s.rows i r t.1 c.loop-row.invariant (not_from_Decides (impossible_by reached r) told (sym c.is_impossible.ensures ∙ c.if-is_impossible.false)))
