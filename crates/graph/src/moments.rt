@@ -82,6 +82,7 @@ impl Moments {
     pub fn within(self, other: Self) -> bool
         ensures { Decides result (Within self other) }
     {
+        // A loop, since the proof of an `all` did not close: it does not know that the words fit.
         for (word, wider) in self.words.iter().zip(&other.words) {
             if word | wider != *wider {
                 return false;
