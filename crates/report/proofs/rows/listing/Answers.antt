@@ -24,7 +24,7 @@ loop-position-preserved g c =
     let rows = (g.S.Source.scene source).rows in
     let text = string_bytes c.loop-position.text in
     let row : Row = (c.in-Some.left, c.in-Some.set, c.in-Some.right) in
-    let line : string_bytes c.in_ok-line.line ≡ row_line c.in-Some.position row = c.in_ok-line.ensures ∙ (λ j. row_line c.in-Some.position (c.from.ensures j, c.in-Some.set, c.from-2.ensures j)) in
+    let line : string_bytes c.in_ok-line.line ≡ row_line c.in-Some.position row = c.in_ok-line.ensures ∙ (λ j. row_line c.in-Some.position (c.from.ensures j, c.in-Some.set, c.from-in-loop-position.ensures j)) in
     let t = numbered_turn g.S.Source.scene source (all_numbered g.S.Source.scene source (cc) (cc) (cc))
     c.loop-position.yielded c.loop-position.position-iterator c.loop-position.yielded_by _ c.next.new.self c.in-Some.position row c.in-Some.is c.next.ensures.steps in
     line_more rows c.in-Some.position (length c.loop-position.yielded) _ row text (string_bytes c.push_str.new.self) (string_bytes c.in_ok-line.line) _ t
