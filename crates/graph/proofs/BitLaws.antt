@@ -1,12 +1,12 @@
 -- What a bit of a word is, after the operations on words.
-use Rattle.std.proofs.Common.{◌≡◌, ℕ, zero, suc, ◌+◌, ◌-◌, ◌*◌, ◌/◌, ◌%◌, ◌^◌, ◌<◌, max, Bool, true, false, ◌&&◌, ◌||◌, eqb, List, length, get_or, set, sym, refl, ap, ◌∙◌, subst, subst₂, inl, inr, arith, get_or-set_other, get_or-set_same}
+use Rattle.std.proofs.Common.{◌≡◌, ℕ, zero, suc, ◌+◌, ◌*◌, ◌/◌, ◌%◌, ◌^◌, ◌<◌, max, Bool, true, false, ◌&&◌, ◌||◌, eqb, List, length, get_or, set, sym, refl, ap, ◌∙◌, subst, subst₂, inl, inr, arith, get_or-set_other, get_or-set_same}
 use mir.Val.{bool_byte}
 use lib.Bits.{bit_and, bit_or, and_mask, or_zero_r}
 use Rattle.std.specs.Int.{bit_at}
 use Rattle.std.proofs.lemmas.Bool.Decides.{nat_tests}
 use Rattle.std.proofs.lemmas.Bool.{cases_eq, cases_lt, eq-eqb, ne_eqb, eqb-true, or_left}
 use Rattle.std.proofs.lemmas.Nat.{shr-shr, one_shl}
-use Rattle.std.proofs.lemmas.Nat.Bits.{bit_at-lt, bit_at_or, bit_at_and, bit_at_ones, bit_at-zero, bit_at_above, bit_at-pow_same, bit_at-pow_other, same_from_bits}
+use Rattle.std.proofs.lemmas.Nat.Bits.{bit_at-lt, bit_at_or, bit_at_above, bit_at-pow_same, bit_at-pow_other, same_from_bits}
 use Rattle.std.proofs.Math.Bool.{or-false}
 use Rattle.graph.specs.Sets.{bit, pair}
 
@@ -62,11 +62,6 @@ bit_put ws false m k h =
     let w = get_or ws (m / 64) 0 in
     let none : (0 * 2 ^ (m % 64)) % 2 ^ 64 ≡ 0 = omega arith in
     ap (λ v. bit v (k % 64)) (word_set ws (m / 64) (k / 64) (bit_or w ((0 * 2 ^ (m % 64)) % 2 ^ 64)) h (λ _. ap (bit_or w) none ∙ or_zero_r w)) ∙ sym (or-false _)
-
--- a word masked by all ones or by none
-pub bit_masked : (told : Bool) (w k : ℕ) → k < 64 → bit (bit_and w ((0 + (2 ^ 64 - bool_byte told)) % 2 ^ 64)) k ≡ (told && bit w k)
-bit_masked true w k h = let ones = bit_at_ones 64 k h in let low = bit_at-lt w k in rw (bit_at_and w (2 ^ 64 - 1) k, ones) (ap (λ v. eqb v 1) (omega arith))
-bit_masked false w k h = rw (bit_at_and w 0 k, bit_at-zero k) (ne_eqb _ 1 (λ f. omega arith))
 
 -- a word whose bits are all in another adds nothing to it
 or_within : (w a b : ℕ) → a < 2 ^ w → ((k : ℕ) → k < w → bit a k ≡ true → bit b k ≡ true) → bit_or a b ≡ b

@@ -61,21 +61,13 @@ impl Moments {
         }
     }
 
-    // The set itself, if told to, and none otherwise; without a branch, for speed.
-    fn only_if(self, told: bool) -> Self
-        ensures { (k : ℕ) → k < 256 → holds result k ≡ (told && holds self k) }
-    {
-        let mask = 0u64.wrapping_sub(told as u64);
-        Moments {
-            words: self.words.map(|word| word & mask),
-        }
-    }
-
     // Puts in the moments of another set, if the set has a given one.
     pub fn follow(&mut self, given: u8, other: Self)
         ensures { (k : ℕ) → k < 256 → holds self.new k ≡ (holds self.old k || (holds self.old given && holds other k)) }
     {
-        *self = self.join(other.only_if(self.has(given)));
+        if self.has(given) {
+            *self = self.join(other);
+        }
     }
 
     // Whether each moment of the set is one of the other.
