@@ -40,12 +40,7 @@ impl<'a, S: Source> Reached<'a, S> {
     fn has_impossible_row(&self) -> bool
         ensures { Decides result (SomeImpossible (S.scene self.now.source.now).rows (S.scene self.now.source.now).rows) }
     {
-        for row in self.source.rows() {
-            if self.is_impossible(row) {
-                return true;
-            }
-        }
-        false
+        self.source.rows().any(|row| self.is_impossible(row))
     }
 
     // None where the rows clash.
