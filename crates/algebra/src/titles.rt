@@ -82,6 +82,7 @@ impl TitleRelation {
         self as u16
     }
 
+    // As text, for comparing; nothing prints it.
     pub fn symbol(self) -> &'static str
         ensures { result.now ≡ (facts self).symbol }
     {

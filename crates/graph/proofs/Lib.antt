@@ -6,7 +6,6 @@ pub mod Finite
 pub mod FreeIsReady
 pub mod Groups
 pub mod Growth
-pub mod Impossible
 pub mod LeaderLists
 pub mod Most
 pub mod Moves

@@ -24,7 +24,8 @@ fn show_entries(rt: &HostRuntime, entries: &[Entry]) -> io::Result<()> {
     println!(rt; "")
 }
 
-// The answers for a table, with a list of so many entries.
+// The answers for a table, with a list of so many entries. A name and a length are all that is passed on from here to
+// there, so they are no struct.
 fn show_table(rt: &HostRuntime, name: &str, table: &Table, length: usize) -> io::Result<()> {
     print!(rt; "{name}\t{}", consistent(table))?;
     let mut entries = vec![in rt.alloc(); BLANK; length]?;

@@ -23,6 +23,7 @@ fn text_of_fault(heap: Global, fault: TableFault) -> Result<String, AllocError>
 fn text_of_table(heap: Global, table: &Table) -> Result<String, AllocError>
     ensures { IfOk result (λ s. string_bytes s ≡ found_text table.now.moments table.now.rows.items) }
 {
+    // A list with a count, since the writer fills the list of its caller.
     let mut out = [0; MOST_WRITTEN];
     let size = write_table(table, &mut out).unwrap();
     let rows = listing(heap, table)?;

@@ -88,20 +88,20 @@ fn read_commands(heap: Global, bytes: &[u8], last: u8) -> Result<Stop, ReadError
 fn start_of(bytes: &[u8]) -> Option<u8>
     ensures { MatchOption result (NoStart bytes.now) (λ c. bytes.now ≡ 16 ∷ c ∷ drop 2 bytes.now) }
 {
-    let [START, last, ..] = bytes else {
-        return None;
-    };
-    Some(*last)
+    match bytes {
+        [START, last, ..] => Some(*last),
+        _ => None,
+    }
 }
 
 // How many bytes follow the end, if the bytes begin with it.
 fn after_end(bytes: &[u8]) -> Option<usize>
     ensures { MatchOption result (NoEnd bytes.now) (λ n. EndBefore bytes.now n) }
 {
-    let [END, after @ ..] = bytes else {
-        return None;
-    };
-    Some(after.len())
+    match bytes {
+        [END, after @ ..] => Some(after.len()),
+        _ => None,
+    }
 }
 
 // The table whose bytes these are, or why they are none.

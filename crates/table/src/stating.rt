@@ -34,6 +34,7 @@ impl Statement {
 #[derive(Clone, Copy)]
 pub(crate) struct Context {
     moments: u16,
+    // A flag for each title: one is a byte, so that the array has them all and nothing is searched.
     declared: [bool; 256],
 }
 

@@ -32,7 +32,7 @@ fn size_within(rows: usize, room: usize) -> Result<usize, Refusal>
     Ok(size)
 }
 
-// A row as its command.
+// A row as its command. A function, since neither of its types is declared here, so that no `From` may be.
 fn row_bytes(row: ByteRow) -> [u8; 4]
     ensures { result ≡ encoding (row_command row) }
 {
