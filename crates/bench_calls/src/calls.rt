@@ -16,8 +16,8 @@ pub extern "C" fn vurkesh_consistent(scene: &BenchScene) -> bool
     consistent(scene)
 }
 
-// Writes the place and the leader of each moment, and answers the number of places; where the rows clash, answers 0
-// and writes nothing.
+// Writes the place and the leader of each moment, and answers the number of places. Where the rows clash it writes
+// nothing and answers 0, a number for a refusal, since the caller is C.
 #[unsafe(no_mangle)]
 pub extern "C" fn vurkesh_order(scene: &BenchScene, entries: &mut [Entry; 256]) -> u16
     ensures { Answered (lent scene.now.rows) entries.old entries.new result }

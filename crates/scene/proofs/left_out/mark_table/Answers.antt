@@ -1,7 +1,6 @@
 use Rattle.std.proofs.Common.{◌≡◌, ℕ, ◌+◌, ◌<◌, ◌≤◌, Bool, true, false, ◌||◌, eqb, List, [], ◌∷◌, length, get_or, take, set, sym, refl, ap, ◌∙◌, inl, inr, arith}
-use Rattle.std.proofs.lemmas.List.{length-replicate, length-set, take_more, take_all}
+use Rattle.std.proofs.lemmas.List.{length-replicate, length-set, take_more}
 use Rattle.std.proofs.lemmas.Result.{err_from_is_err_and}
-use Rattle.std.proofs.lemmas.Bool.{both_ways}
 use Rattle.scene.specs.declared.refusals.Refusal.{Refusal}
 use Rattle.scene.specs.declared.refusals.Refusal.TheVariants.{NoSuchRow}
 use Rattle.scene.specs.Checks.{First}
@@ -42,9 +41,3 @@ loop-mark-preserved c =
       ap low (take_more ms i 0 (omega arith)) ∙ low_push (take i ms) m c.loop-mark.invariant.1 (omega arith),
       λ k. marks_more c.loop-mark.table ms i k (omega arith) (omega arith) (c.loop-mark.invariant.2 k),
     )
-
-pub returns : goal.returns
-returns c =
-    let ms = c.args.marks.now in
-    let all = take_all c.loop-mark.mark-index ms (omega arith) in
-    (((λ e. both_ways (low ms) e (ap low (sym all) ∙ c.loop-mark.invariant.1)), tt), λ k. c.loop-mark.invariant.2 k ∙ ap (λ xs. marked xs k) all)

@@ -5,7 +5,7 @@ use Rattle.scene.specs.declared.refusals.Refusal.TheVariants.{TableMalformed, To
 use Rattle.scene.specs.Scenes.{all_fit}
 use Rattle.table.specs.Readings.{NoStart, NoEnd, EndBefore, Reads, found, too_long, no_start}
 use Rattle.table.specs.Told.{Told}
-use Rattle.table.proofs.Closing.{none_of, some_of, lacking, given, told_refusal, told_command, rows_fit, no_end, bytes_late, rows_many, whole}
+use Rattle.table.proofs.Closing.{none_of, some_of, lacking, given, told_refusal, rows_fit, no_end, bytes_late, rows_many, whole}
 use Rattle.table.proofs.reader.read.Goals as goal
 
 -- what is told of the end at a place
@@ -32,13 +32,6 @@ returns-in_err-last c =
     let l = lacking c.refuse-2.result c.start_of.result c.ok_or.result c.in_err-last.field-0.0 c.ok_or.ensures.value c.in_err-last.was in
     let none = none_of (NoStart bytes) _ c.start_of.result l.0 c.start_of.ensures in
     subst (Told (Reads bytes)) (sym (p.1 ∙ ap Err (p.2 ∙ l.1))) (told_refusal bytes c.refuse-2.result TableMalformed 0 c.refuse-2.ensures (no_start (omega arith) none))
-
-pub returns-in_err-rows : goal.returns-in_err-rows
-returns-in_err-rows c =
-    let p = err_from_is_err_and c.from_residual-in_err-rows.result c.from_residual-in_err-rows.ensures.1 in
-    let bytes = c.args.bytes.now in
-    let e = c.in_err-rows.field-0.0 in
-    subst (Told (Reads bytes)) (sym (p.1 ∙ ap Err p.2)) (told_command bytes c.in_ok-last.last e c.in_err-rows.ensures)
 
 pub returns-in_err-after : goal.returns-in_err-after
 returns-in_err-after c =

@@ -7,16 +7,11 @@ use Rattle.scene.specs.declared.refusals.Refusal.{Refusal}
 use Rattle.scene.specs.Checks.{Check, First, Clear, Answers}
 use Rattle.table.specs.declared.reader.ReadError.{ReadError}
 use Rattle.table.specs.declared.stating.Statement.{Statement}
-use Rattle.table.specs.Commands.{Begins, NoCommand, stated, of_command}
+use Rattle.table.specs.Commands.{Begins, stated, of_command}
 use Rattle.table.specs.Statements.{rows_in}
 use Rattle.table.specs.Told.{same, fault_at, Commanded}
-use Rattle.table.proofs.Reading.{Progress, no_progress, refused_here, progress_more}
+use Rattle.table.proofs.Reading.{Progress, refused_here, progress_more}
 use Rattle.table.proofs.reader.read_commands.Goals as goal
-
-pub loop-command-init : goal.loop-command-init
-loop-command-init c =
-    let none = no_progress c.args.bytes.now c.args.last c.new-context.result.declared c.requires.0 c.requires.1 c.new-context.ensures.none in
-    (omega (arith, c.new-context.ensures.moments, c.from.ensures), [], subst (λ rs. Progress c.args.bytes.now c.args.last 2 c.new-context.result.declared rs []) (sym c.new-rows.ensures.items) none)
 
 -- a refusal that gained its place is that of the first check
 module _ (place : ℕ) (cs : List (Check Refusal)) (Good : Statement → Type 0) where
@@ -59,17 +54,4 @@ loop-command-preserved c =
       subst (λ n. Progress bytes c.args.last (l.place + n) c.declare.new.self.declared (vec_items c.extend_from_slice.new.self) (l.invariant.1 ++ k ∷ [])) (sym c.size-place.ensures)
           (progress_more bytes c.args.last l.place l.context.declared (vec_items l.rows) l.invariant.1 l.invariant.2 k b c.declare.new.self.declared (vec_items c.extend_from_slice.new.self)
           t.0 c.declare.ensures.declared (rows ∙ ap (λ rs. vec_items l.rows ++ rs) t.1)),
-    )
-
-pub returns : goal.returns
-returns c =
-    let p = c.loop-command.invariant.2 in (
-      c.loop-command.invariant.1,
-      record {
-        begun = p.begun;
-        at = p.at;
-        within = p.within;
-        rows = p.rows_are;
-        last = subst NoCommand (take_rest c.args.bytes.now c.loop-command.place) c.in_default.ensures;
-      },
     )

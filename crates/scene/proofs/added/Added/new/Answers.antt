@@ -1,4 +1,4 @@
-use Rattle.std.proofs.Common.{◌≡◌, ℕ, ◌+◌, ◌≤◌, true, List, ◌++◌, length, take, sym, refl, ap, ◌∙◌, subst, inl, inr, arith}
+use Rattle.std.proofs.Common.{◌≡◌, ℕ, ◌+◌, ◌≤◌, true, List, ◌++◌, length, take, sym, ap, ◌∙◌, subst, inr, arith}
 use Rattle.std.proofs.lemmas.List.{take_all}
 use Rattle.std.proofs.lemmas.Result.{err_from_is_err_and}
 use Rattle.algebra.specs.Placements.{Row}
@@ -35,18 +35,6 @@ returns-in_err-check_count g c =
     rw (p.1, p.2) (first_last s.moments (of_count (length s.rows) (length more)) more e
     (all_own c.moments-moments.result s.moments more c.loop-row.row-index c.moments-moments.ensures (omega arith) c.loop-row.invariant)
     c.in_err-check_count.ensures)
-
-pub invariant_of-result : goal.invariant_of-result
-invariant_of-result g c =
-    let m = c.moments-moments.result in
-    let more = c.args.more.now in
-    let l = g.met.S.Source.lawful c.args.below.now in
-    let short = at_most 6 (length more) (λ h. c.in_ok-check_count.ensures.0.0 (inl h)) in
-    record {
-      few = omega (arith, l.few, c.moments-moments.ensures);
-      own = all_own m m more c.loop-row.row-index refl (omega arith) c.loop-row.invariant;
-      short = short;
-    }
 
 pub returns : goal.returns
 returns g c =

@@ -1,4 +1,4 @@
-use Rattle.std.proofs.Common.{length, sym, ap, ◌∙◌, arith}
+use Rattle.std.proofs.Common.{sym, ◌∙◌, arith}
 use Rattle.algebra.specs.Placements.{Row}
 use Rattle.scene.proofs.Owned.{small_ends}
 use Rattle.scene.proofs.Positions.{rest_at}
@@ -20,9 +20,3 @@ pub returns-clause-steps : goal.returns-clause-steps
 returns-clause-steps g c =
     let self = c.args.self.now in
     rest_at (g.S.Source.scene self.source.now).rows self.position (c.in_ok-left.left, c.in_ok-left.set, c.in_ok-left.right) (sym c.in_ok-left.was ∙ c.row.ensures)
-
-pub returns-clause-goes : goal.returns-clause-goes
-returns-clause-goes g c =
-    let self = c.args.self.now in
-    let rest = ap length (rest_at (g.S.Source.scene self.source.now).rows self.position (c.in_ok-left.left, c.in_ok-left.set, c.in_ok-left.right) (sym c.in_ok-left.was ∙ c.row.ensures)) in
-    record { on = λ finite. (tt, finite, omega (arith, rest)); keeps = tt; rests = λ _. tt }
