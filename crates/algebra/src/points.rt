@@ -30,7 +30,7 @@ impl Relation {
         }
     }
 
-    // Whether the set holds the relation.
+    // Whether the set holds the relation. A set is a number, as in rows; a type of its own would ask callers to make one.
     pub fn is_in(self, set: u8) -> bool
         ensures { result ≡ has set self }
     {

@@ -148,7 +148,7 @@ impl TitleRelation {
         self.signs()[pair as usize]
     }
 
-    // Whether the set holds the relation.
+    // Whether the set holds the relation. A set is a number, as in rules; a type of its own would ask callers to make one.
     pub fn is_in(self, set: u16) -> bool
         ensures { result ≡ holds set self }
     {

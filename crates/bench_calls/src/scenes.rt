@@ -1,9 +1,8 @@
 // A scene of 256 moments and 4,096 rows that a program in another language lends.
 ghost use Rattle.std.specs.Prelude.{◌≡◌};
-ghost use Rattle.std.specs.List.{slice_get};
 ghost use Rattle.bench_calls.specs.Lent.{inside, seen, lent, lent_lawful};
 
-use scene::sources::{Row, Source};
+use scene::sources::{Row, Source, row_in};
 
 // The left moment, the set of relations, the right moment.
 #[derive(Clone, Copy)]
@@ -40,13 +39,6 @@ impl From<BenchRow> for Row {
     }
 }
 
-// The row at a position, as it was lent.
-fn lent_row(rows: &[BenchRow], position: usize) -> Option<BenchRow>
-    ensures { result ≡ slice_get rows.now position }
-{
-    rows.get(position).copied()
-}
-
 // Lawful for any bytes.
 impl Source for BenchScene {
     ghost scene = { λ s. lent s.rows };
@@ -62,7 +54,7 @@ impl Source for BenchScene {
     }
 
     fn row(&self, position: usize) -> Option<Row> {
-        let row = lent_row(&self.rows, position)?;
+        let row = row_in(&self.rows, position)?;
         Some(Row::from(row))
     }
 }

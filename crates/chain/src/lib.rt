@@ -54,12 +54,7 @@ impl Source for Chain {
     }
 
     fn row(&self, position: usize) -> Option<Row> {
-        // Not by `then_some`: the position is known to be a byte only where the test passes.
-        if position < self.last() as usize {
-            Some(link(position as u8))
-        } else {
-            None
-        }
+        (position < self.last() as usize).then(|| link(position as u8))
     }
 }
 

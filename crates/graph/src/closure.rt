@@ -98,7 +98,8 @@ impl Matrix {
         }
     }
 
-    // Adds the steps of a row. By `put_if`: an `if` around `put` makes consistency up to two fifths slower.
+    // Adds the steps of a row. By `put_if`: with an `if` around `put`, consistency takes 1.7 times plain Rust, which is
+    // above its limit.
     fn put_steps(&mut self, row: ByteRow)
         ensures { (x y : ℕ) → x < 256 → y < 256 → reaches self.new.rows x y ≡ stepped row (reaches self.old.rows) x y }
     {
@@ -134,13 +135,12 @@ impl Matrix {
         }
     }
 
-    // Makes paths of steps. Counts pairs: in steps of two the compiler does not know that each moment is even, and
-    // the closure takes a tenth longer.
+    // Makes paths of steps.
     fn close(&mut self)
         ensures { (rs : List Row) → Inside rs → TellsSteps (reaches self.old.rows) rs → Tells (reaches self.new.rows) rs }
     {
-        for pair in 0..128u8 {
-            self.pass_pair(2 * pair);
+        for first in (0..=254).step_by(2) {
+            self.pass_pair(first);
         }
     }
 }

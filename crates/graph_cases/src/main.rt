@@ -6,8 +6,9 @@ ghost use Rattle.std.specs.Prelude.{◌<◌};
 
 use graph::consistency::consistent;
 use graph::order::{Entry, write_order};
-use scene::sources::Row;
+use scene::sources::ByteRow;
 use std::io;
+use table::commands::{END, ROW, START};
 use table::reader::read_table;
 use table::tables::Table;
 
@@ -24,94 +25,112 @@ fn show_entries(rt: &HostRuntime, entries: &[Entry]) -> io::Result<()> {
     println!(rt; "")
 }
 
-// The answers for a table, with a list of so many entries. A name and a length are all that is passed on from here to
-// there, so they are no struct.
-fn show_table(rt: &HostRuntime, name: &str, table: &Table, length: usize) -> io::Result<()> {
-    print!(rt; "{name}\t{}", consistent(table))?;
-    let mut entries = vec![in rt.alloc(); BLANK; length]?;
-    match write_order(table, &mut entries) {
-        Ok(places) => print!(rt; "\tplaces\t{places}")?,
-        Err(refusal) => print!(rt; "\trefused\t{refusal}")?,
-    }
-    show_entries(rt, &entries)
+// Rows over the moments up to the last, to be shown under a name, with a list of so many entries.
+#[derive(Clone, Copy)]
+struct Case<'a> {
+    name: &'a str,
+    last: u8,
+    rows: &'a [ByteRow],
+    length: usize,
 }
 
-// The answers for these rows over the moments up to the last.
-fn show(rt: &HostRuntime, name: &str, last: u8, rows: &[Row], length: usize) -> io::Result<()> {
-    let mut bytes = Vec::new(rt.alloc());
-    bytes.extend_from_slice(&[0x10, last])?;
-    for (left, set, right) in rows {
-        let command = [0x01, (*left % 256) as u8, *set, (*right % 256) as u8];
-        bytes.extend_from_slice(&command)?;
+impl Case<'_> {
+    fn show(&self, rt: &HostRuntime) -> io::Result<()> {
+        let name = self.name;
+        let mut bytes = Vec::new(rt.alloc());
+        bytes.extend_from_slice(&[START, self.last])?;
+        for (left, set, right) in self.rows {
+            bytes.extend_from_slice(&[ROW, *left, *set, *right])?;
+        }
+        bytes.push(END)?;
+        match read_table(rt.alloc(), &bytes) {
+            Ok(table) => self.show_table(rt, &table),
+            Err(_) => println!(rt; "{name}\tno table"),
+        }
     }
-    bytes.push(0x00)?;
-    match read_table(rt.alloc(), &bytes) {
-        Ok(table) => show_table(rt, name, &table, length),
-        Err(_) => println!(rt; "{name}\tno table"),
+
+    fn show_table(&self, rt: &HostRuntime, table: &Table) -> io::Result<()> {
+        let name = self.name;
+        print!(rt; "{name}\t{}", consistent(table))?;
+        let mut entries = vec![in rt.alloc(); BLANK; self.length]?;
+        match write_order(table, &mut entries) {
+            Ok(places) => print!(rt; "\tplaces\t{places}")?,
+            Err(refusal) => print!(rt; "\trefused\t{refusal}")?,
+        }
+        show_entries(rt, &entries)
     }
 }
 
-fn show_all(rt: &HostRuntime, cases: &[(&str, u8, &[Row], usize)]) -> io::Result<()> {
-    for (name, last, rows, length) in cases {
-        show(rt, name, *last, rows, *length)?;
+fn show_all(rt: &HostRuntime, cases: &[Case]) -> io::Result<()> {
+    for case in cases {
+        case.show(rt)?;
     }
     Ok(())
 }
 
+fn titled<'a>(name: &'a str, last: u8, rows: &'a [ByteRow], length: usize) -> Case<'a> {
+    Case {
+        name,
+        last,
+        rows,
+        length,
+    }
+}
+
 // Rows of few moments, worked by hand.
 fn show_small(rt: &HostRuntime) -> io::Result<()> {
-    let cases: [(&str, u8, &[Row], usize); 14] = [
-        ("no rows", 2, &[], 3),
-        ("weak both ways", 1, &[(0, 3, 1), (1, 3, 0)], 2),
-        (
+    let cases: [Case; 14] = [
+        titled("no rows", 2, &[], 3),
+        titled("weak both ways", 1, &[(0, 3, 1), (1, 3, 0)], 2),
+        titled(
             "diamond",
             3,
             &[(0, 3, 1), (0, 3, 2), (1, 3, 3), (2, 3, 3), (1, 5, 2)],
             4,
         ),
-        ("before itself", 0, &[(0, 1, 0)], 1),
-        ("apart from itself", 0, &[(0, 5, 0)], 1),
-        (
+        titled("before itself", 0, &[(0, 1, 0)], 1),
+        titled("apart from itself", 0, &[(0, 5, 0)], 1),
+        titled(
             "together or apart from itself",
             0,
             &[(0, 7, 0), (0, 2, 0)],
             1,
         ),
-        ("weak ring", 2, &[(0, 3, 1), (1, 3, 2), (2, 3, 0)], 3),
-        (
+        titled("weak ring", 2, &[(0, 3, 1), (1, 3, 2), (2, 3, 0)], 3),
+        titled(
             "weak ring with two apart",
             2,
             &[(0, 3, 1), (1, 3, 2), (2, 3, 0), (0, 5, 2)],
             3,
         ),
-        (
+        titled(
             "ring with one strict",
             2,
             &[(0, 3, 1), (1, 1, 2), (2, 3, 0)],
             3,
         ),
-        ("falling", 2, &[(2, 1, 1), (1, 1, 0)], 3),
-        ("after and together or after", 2, &[(0, 4, 1), (1, 6, 2)], 3),
-        (
+        titled("falling", 2, &[(2, 1, 1), (1, 1, 0)], 3),
+        titled("after and together or after", 2, &[(0, 4, 1), (1, 6, 2)], 3),
+        titled(
             "two groups of two",
             3,
             &[(1, 2, 3), (2, 2, 0), (3, 1, 0)],
             4,
         ),
-        ("any relation", 2, &[(0, 7, 1), (1, 7, 2), (2, 7, 0)], 3),
-        ("apart", 2, &[(0, 5, 1), (1, 5, 2), (2, 5, 0)], 3),
+        titled("any relation", 2, &[(0, 7, 1), (1, 7, 2), (2, 7, 0)], 3),
+        titled("apart", 2, &[(0, 5, 1), (1, 5, 2), (2, 5, 0)], 3),
     ];
     show_all(rt, &cases)
 }
 
 // Lists that are too short, or longer than the moments.
 fn show_lists(rt: &HostRuntime) -> io::Result<()> {
-    let cases: [(&str, u8, &[Row], usize); 5] = [
-        ("no entry", 0, &[], 0),
-        ("one entry too few", 2, &[(0, 1, 1)], 2),
-        ("too few, and a clash", 2, &[(0, 1, 0)], 2),
-        ("a clash", 2, &[(0, 1, 0)], 3),
-        ("two entries more", 2, &[(2, 1, 1)], 5),
+    let cases: [Case; 5] = [
+        titled("no entry", 0, &[], 0),
+        titled("one entry too few", 2, &[(0, 1, 1)], 2),
+        titled("too few, and a clash", 2, &[(0, 1, 0)], 2),
+        titled("a clash", 2, &[(0, 1, 0)], 3),
+        titled("two entries more", 2, &[(2, 1, 1)], 5),
     ];
     show_all(rt, &cases)
 }
@@ -119,11 +138,11 @@ fn show_lists(rt: &HostRuntime) -> io::Result<()> {
 // Rows from each moment to the next of 256, and one from the last to the first.
 fn show_ring(rt: &HostRuntime, name: &str, set: u8, back: u8, length: usize) -> io::Result<()> {
     let mut rows = Vec::new(rt.alloc());
-    for left in 0..255u16 {
+    for left in 0..255 {
         rows.push((left, set, left + 1))?;
     }
     rows.push((255, back, 0))?;
-    show(rt, name, 255, &rows, length)
+    titled(name, 255, &rows, length).show(rt)
 }
 
 // A fixed sequence of numbers that look random.
@@ -149,13 +168,13 @@ fn random_rows(
     random: &mut Random,
     last: u8,
     count: u64,
-) -> io::Result<Vec<Row>> {
+) -> io::Result<Vec<ByteRow>> {
     let moments = u64::from(last) + 1;
     let mut rows = Vec::new(rt.alloc());
     for _ in 0..count {
-        let left = random.below(moments) as u16;
+        let left = random.below(moments) as u8;
         let set = 1 + random.below(7) as u8;
-        let right = random.below(moments) as u16;
+        let right = random.below(moments) as u8;
         rows.push((left, set, right))?;
     }
     Ok(rows)
@@ -168,7 +187,7 @@ fn show_random(rt: &HostRuntime, scenes: usize) -> io::Result<()> {
         let last = random.below(6) as u8;
         let count = random.below(9);
         let rows = random_rows(rt, &mut random, last, count)?;
-        show(rt, "random", last, &rows, last as usize + 1)?;
+        titled("random", last, &rows, usize::from(last) + 1).show(rt)?;
     }
     Ok(())
 }
@@ -176,7 +195,7 @@ fn show_random(rt: &HostRuntime, scenes: usize) -> io::Result<()> {
 fn main(rt: HostRuntime) -> io::Result<()> {
     show_small(&rt)?;
     show_lists(&rt)?;
-    show(&rt, "256 moments, no rows", 255, &[], 256)?;
+    titled("256 moments, no rows", 255, &[], 256).show(&rt)?;
     show_ring(&rt, "256 moments rising", 1, 7, 256)?;
     show_ring(&rt, "256 moments falling", 4, 7, 256)?;
     show_ring(&rt, "256 moments in one group", 3, 3, 256)?;

@@ -45,6 +45,7 @@ pub fn listing<S: Source>(heap: Global, source: &S) -> Result<String, AllocError
     let moments = source.moments();
     let mut text = format!(in heap; "moments\t{moments}\n")?;
     for (position, (left, set, right)) in source.rows().enumerate() {
+        // A line is made of a row with plain numbers.
         let row = (u16::from(left), set, u16::from(right));
         let line = row_text(heap, position, row)?;
         text.push_str(line.as_str())?;

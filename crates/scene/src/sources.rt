@@ -69,8 +69,8 @@ impl<'a, S: Source> Iterator for Rows<'a, S> {
     }
 }
 
-// The row at a position of a list; none at or past its end.
-pub fn row_in(rows: &[Row], position: usize) -> Option<Row>
+// The row at a position of a list, of whatever kind its rows are; none at or past its end.
+pub fn row_in<T: Copy>(rows: &[T], position: usize) -> Option<T>
     ensures { result ≡ slice_get rows.now position }
 {
     rows.get(position).copied()

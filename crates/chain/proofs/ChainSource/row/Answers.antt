@@ -1,11 +1,8 @@
-use Rattle.std.proofs.Common.{◌-◌, Some, ap, ◌∙◌, arith}
-use Rattle.chain.proofs.Rows.{row_at, none_past}
+use Rattle.std.proofs.Common.{◌-◌, ltb, ap, ◌∙◌, rules}
+use Rattle.chain.proofs.Rows.{row_where}
 use Rattle.chain.proofs.ChainSource.row.Goals as goal
 
-pub returns-then-position-last : goal.returns-then-position-last
-returns-then-position-last c =
+pub returns : goal.returns
+returns c =
     let k = c.args.position in
-    ap Some c.link.ensures ∙ row_at 0 (c.args.self.now.moments - 1) k k (omega arith) (omega arith)
-
-pub returns-else-position-last : goal.returns-else-position-last
-returns-else-position-last c = none_past 0 (c.args.self.now.moments - 1) c.args.position (omega arith)
+    row_where (c.args.self.now.moments - 1) k _ c.then.result (c.then.ensures.variant ∙ ap (ltb k) c.last.ensures) c.then.ensures.some (λ x p. search rules)

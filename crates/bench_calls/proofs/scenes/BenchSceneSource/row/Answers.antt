@@ -12,7 +12,7 @@ returns-in_err-row c =
     let rows = c.args.self.now.rows in
     let k = c.args.position in
     let long : length rows ≡ 4096 = search rules in
-    let none : None ≡ slice_get rows k = sym c.in_err-row.was ∙ c.lent_row.ensures in
+    let none : None ≡ slice_get rows k = sym c.in_err-row.was ∙ c.row_in.ensures in
     let past = at_most k (length rows) (λ h. nth_there rows k h none) in c.from_residual.ensures ∙ none_past rows 0 4096 k (omega arith)
 
 pub returns : goal.returns
@@ -21,7 +21,7 @@ returns c =
     let k = c.args.position in
     let row = c.in_ok-row.row in
     let long : length rows ≡ 4096 = search rules in
-    let some : slice_get rows k ≡ Some row = sym c.lent_row.ensures ∙ c.in_ok-row.was in
+    let some : slice_get rows k ≡ Some row = sym c.row_in.ensures ∙ c.in_ok-row.was in
     let below = slice_get_within rows k row some in
     let same : row ≡ get_or rows k blank = (let h = slice_get-get_or rows k blank below in cc) in
     ap Some (c.from.ensures ∙ ap seen same) ∙ row_at rows 0 4096 k k (omega arith) (omega arith)
