@@ -21,10 +21,10 @@ module _ (n : ℕ) (rs : List Row) (own : all_fit n rs ≡ true) (few : n ≤ 25
   pub free_eligible : (m : ℕ) → m < n → Free t b marked m → Eligible n rs ls m
   free_eligible m hm f = (
     hm,
-    not_from_Decides (marked m) (marks m (omega arith)) f.0,
+    not_from_Decides (marked m) (marks m (omega arith)) f.unmarked,
     λ v p un.
         let hv = path_inside n rs own p hm in
-        elim (or_cases (t m v) (marked v) (f.1 v (omega arith) ((back m v (omega arith) (omega arith)).1 (path_turned rs v m p)))) [
+        elim (or_cases (t m v) (marked v) (f.clear v (omega arith) ((back m v (omega arith) (omega arith)).1 (path_turned rs v m p)))) [
           | inl e ↦ (tells m v (omega arith) (omega arith)).0 e
           | inr e ↦ absurd (un ((marks v (omega arith)).0 e))
         ],
@@ -32,13 +32,14 @@ module _ (n : ℕ) (rs : List Row) (own : all_fit n rs ≡ true) (few : n ≤ 25
 
   pub eligible_free : (m : ℕ) → Eligible n rs ls m → Free t b marked m
   eligible_free m e =
-      let hm : m < 256 = omega (arith, e.0) in (
-        false_from_ne_true (marked m) (λ h. e.1 ((marks m hm).0 h)),
-        λ v hv h. elim (cases_Bool (marked v)) [
+      let hm : m < 256 = omega (arith, e.0) in
+      record {
+        unmarked = false_from_ne_true (marked m) (λ h. e.1 ((marks m hm).0 h));
+        clear = λ v hv h. elim (cases_Bool (marked v)) [
           | inl k ↦ or_right (t m v) (marked v) k
           | inr k ↦ or_left (t m v) (marked v) ((tells m v hm hv).1 (e.2 v (turned_path rs m v ((back m v hm hv).0 h)) (not_from_Decides (marked v) (marks v hv) k)))
-        ],
-      )
+        ];
+      }
 
   -- the lowest that is free leads its group
   pub lowest_leads : (m : ℕ) → m < n → Free t b marked m → ((v : ℕ) → v < m → Free t b marked v → ⊥) → Leads rs m m

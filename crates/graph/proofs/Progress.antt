@@ -76,7 +76,7 @@ module _ (n : ℕ) (rs : List Row) (own : all_fit n rs ≡ true) (few : n ≤ 25
       pub state_fewer : unmarked more n < unmarked marked n
       state_fewer = count_lt (λ v. not (more v)) (λ v. not (marked v)) n m hm
           (not_from_true (more m) ((marks_now m (omega arith)).1 (placed_last rs s.placed m m (group_self rs m))))
-          (not_from_false (marked m) free.0)
+          (not_from_false (marked m) free.unmarked)
           (λ v hv e. not_from_false (marked v) (still v (omega arith) (not-true (more v) e)))
         where
           still : (v : ℕ) → v < 256 → more v ≡ false → marked v ≡ false

@@ -7,8 +7,9 @@ abbrev pub Clear : (t b : ℕ → ℕ → Bool) → (ℕ → Bool) → ℕ → T
 Clear t b marked m = (v : ℕ) → v < 256 → b m v ≡ true → (t m v || marked v) ≡ true
 
 -- m is not marked, and clear
-abbrev pub Free : (t b : ℕ → ℕ → Bool) → (ℕ → Bool) → ℕ → Type 0
-Free t b marked m = (marked m ≡ false) × Clear t b marked m
+pub record Free (t b : ℕ → ℕ → Bool) (marked : ℕ → Bool) (m : ℕ) : Type 0 where
+  pub unmarked : marked m ≡ false
+  pub clear : Clear t b marked m
 
 -- the entries of the moments below n in the group of m are e, and all others are as they were
 abbrev pub Grouped : (t : ℕ → ℕ → Bool) → ℕ → ℕ → Entry → List Entry → List Entry → Type 0

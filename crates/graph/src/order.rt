@@ -76,13 +76,9 @@ impl<'a, S: Source> Placing<'a, S> {
     fn lowest_ready(&self) -> Option<u8>
         ensures { LowestFree (reaches self.now.reached.now.closure.matrix.rows) (reaches self.now.back.matrix.rows) (holds self.now.placed) (S.scene self.now.reached.now.source.now).moments result }
     {
-        // A loop, since the proof of a `find` did not close.
-        for m in 0..self.reached.source.moments() {
-            if self.is_free(m as u8) {
-                return Some(m as u8);
-            }
-        }
-        None
+        let moments = self.reached.source.moments();
+        let moment = (0..moments).find(|m| self.is_free(*m as u8))?;
+        Some(moment as u8)
     }
 
     // Writes the entries of a leader's group, which then has a place.

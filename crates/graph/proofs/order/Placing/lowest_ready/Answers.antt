@@ -1,6 +1,30 @@
-use Rattle.std.proofs.Common.{below_more}
-use Rattle.std.proofs.lemmas.Bool.Decides.{not_from_Decides}
+use Rattle.std.proofs.Common.{ℕ, arith, rules}
+use Rattle.std.proofs.lemmas.Iterator.{first_from_Range}
+use Rattle.graph.specs.Free.{Free}
+use Rattle.graph.specs.Reaching.{reaches}
+use Rattle.graph.specs.Sets.{holds}
 use Rattle.graph.proofs.order.Placing.lowest_ready.Goals as goal
 
-pub loop-m-preserved : goal.loop-m-preserved
-loop-m-preserved g c = below_more _ _ c.loop-m.invariant (not_from_Decides c.is_free.result c.is_free.ensures c.if-is_free.false)
+pub returns-in_err-moment : goal.returns-in_err-moment
+returns-in_err-moment g c =
+    let self = c.args.self.now in
+    let IsFree : ℕ → Type 0 = λ m. Free (reaches self.reached.now.closure.matrix.rows) (reaches self.back.matrix.rows) (holds self.placed) m in
+    let told = first_from_Range _ c.find.new.self _ c.find.result IsFree (λ m. IsFree m → ⊥) c.find.ensures.ran (λ m q k. search rules) (λ m q k. search rules) in
+    let found = rw c.in_err-moment.was at told in
+    rw c.from_residual.ensures (λ m h. found m (omega arith) (omega (arith, c.moments-moments.ensures)))
+
+pub overflow_cast-result : goal.overflow_cast-result
+overflow_cast-result g c =
+    let self = c.args.self.now in
+    let IsFree : ℕ → Type 0 = λ m. Free (reaches self.reached.now.closure.matrix.rows) (reaches self.back.matrix.rows) (holds self.placed) m in
+    let told = first_from_Range _ c.find.new.self _ c.find.result IsFree (λ m. IsFree m → ⊥) c.find.ensures.ran (λ m q k. search rules) (λ m q k. search rules) in
+    let found = rw c.in_ok-moment.was at told in
+    omega (arith, found.1, c.moments-moments.ensures, (g.met.S.Source.lawful self.reached.now.source.now).few)
+
+pub returns : goal.returns
+returns g c =
+    let self = c.args.self.now in
+    let IsFree : ℕ → Type 0 = λ m. Free (reaches self.reached.now.closure.matrix.rows) (reaches self.back.matrix.rows) (holds self.placed) m in
+    let told = first_from_Range _ c.find.new.self _ c.find.result IsFree (λ m. IsFree m → ⊥) c.find.ensures.ran (λ m q k. search rules) (λ m q k. search rules) in
+    let found = rw c.in_ok-moment.was at told in
+    (omega (arith, found.1, c.moments-moments.ensures), found.2, λ v h. found.3 v (omega arith) h)
