@@ -53,5 +53,6 @@ all_seen_fit rs k (suc n) =
 abbrev pub lent : List BenchRow → Scene
 lent rs = record { moments = 256; rows = seen_from rs 0 4096 }
 
+-- whatever the array holds, its scene is lawful
 pub lent_lawful : (rs : List BenchRow) → Lawful (lent rs)
 lent_lawful rs = record { some = omega arith; few = omega arith; short = omega (arith, length_seen rs 0 4096); own = all_seen_fit rs 0 4096 }

@@ -31,6 +31,7 @@ fit_links m i (suc n) h =
 abbrev pub chained : ℕ → Scene
 chained n = record { moments = n; rows = links 0 (n - 1) }
 
+-- a chain of 1 to 256 moments is lawful
 pub chained_lawful : (n : ℕ) → 1 ≤ n → n ≤ 256 → Lawful (chained n)
 chained_lawful n some few = record { some = some; few = few; short = omega (arith, length_links 0 (n - 1)); own = fit_links n 0 (n - 1) (omega arith) }
 

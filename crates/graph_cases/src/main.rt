@@ -34,7 +34,16 @@ struct Case<'a> {
     length: usize,
 }
 
-impl Case<'_> {
+impl<'a> Case<'a> {
+    fn new(name: &'a str, last: u8, rows: &'a [ByteRow], length: usize) -> Case<'a> {
+        Case {
+            name,
+            last,
+            rows,
+            length,
+        }
+    }
+
     fn show(&self, rt: &HostRuntime) -> io::Result<()> {
         let name = self.name;
         let mut bytes = Vec::new(rt.alloc());
@@ -68,57 +77,48 @@ fn show_all(rt: &HostRuntime, cases: &[Case]) -> io::Result<()> {
     Ok(())
 }
 
-fn titled<'a>(name: &'a str, last: u8, rows: &'a [ByteRow], length: usize) -> Case<'a> {
-    Case {
-        name,
-        last,
-        rows,
-        length,
-    }
-}
-
 // Rows of few moments, worked by hand.
 fn show_small(rt: &HostRuntime) -> io::Result<()> {
     let cases: [Case; 14] = [
-        titled("no rows", 2, &[], 3),
-        titled("weak both ways", 1, &[(0, 3, 1), (1, 3, 0)], 2),
-        titled(
+        Case::new("no rows", 2, &[], 3),
+        Case::new("weak both ways", 1, &[(0, 3, 1), (1, 3, 0)], 2),
+        Case::new(
             "diamond",
             3,
             &[(0, 3, 1), (0, 3, 2), (1, 3, 3), (2, 3, 3), (1, 5, 2)],
             4,
         ),
-        titled("before itself", 0, &[(0, 1, 0)], 1),
-        titled("apart from itself", 0, &[(0, 5, 0)], 1),
-        titled(
+        Case::new("before itself", 0, &[(0, 1, 0)], 1),
+        Case::new("apart from itself", 0, &[(0, 5, 0)], 1),
+        Case::new(
             "together or apart from itself",
             0,
             &[(0, 7, 0), (0, 2, 0)],
             1,
         ),
-        titled("weak ring", 2, &[(0, 3, 1), (1, 3, 2), (2, 3, 0)], 3),
-        titled(
+        Case::new("weak ring", 2, &[(0, 3, 1), (1, 3, 2), (2, 3, 0)], 3),
+        Case::new(
             "weak ring with two apart",
             2,
             &[(0, 3, 1), (1, 3, 2), (2, 3, 0), (0, 5, 2)],
             3,
         ),
-        titled(
+        Case::new(
             "ring with one strict",
             2,
             &[(0, 3, 1), (1, 1, 2), (2, 3, 0)],
             3,
         ),
-        titled("falling", 2, &[(2, 1, 1), (1, 1, 0)], 3),
-        titled("after and together or after", 2, &[(0, 4, 1), (1, 6, 2)], 3),
-        titled(
+        Case::new("falling", 2, &[(2, 1, 1), (1, 1, 0)], 3),
+        Case::new("after and together or after", 2, &[(0, 4, 1), (1, 6, 2)], 3),
+        Case::new(
             "two groups of two",
             3,
             &[(1, 2, 3), (2, 2, 0), (3, 1, 0)],
             4,
         ),
-        titled("any relation", 2, &[(0, 7, 1), (1, 7, 2), (2, 7, 0)], 3),
-        titled("apart", 2, &[(0, 5, 1), (1, 5, 2), (2, 5, 0)], 3),
+        Case::new("any relation", 2, &[(0, 7, 1), (1, 7, 2), (2, 7, 0)], 3),
+        Case::new("apart", 2, &[(0, 5, 1), (1, 5, 2), (2, 5, 0)], 3),
     ];
     show_all(rt, &cases)
 }
@@ -126,11 +126,11 @@ fn show_small(rt: &HostRuntime) -> io::Result<()> {
 // Lists that are too short, or longer than the moments.
 fn show_lists(rt: &HostRuntime) -> io::Result<()> {
     let cases: [Case; 5] = [
-        titled("no entry", 0, &[], 0),
-        titled("one entry too few", 2, &[(0, 1, 1)], 2),
-        titled("too few, and a clash", 2, &[(0, 1, 0)], 2),
-        titled("a clash", 2, &[(0, 1, 0)], 3),
-        titled("two entries more", 2, &[(2, 1, 1)], 5),
+        Case::new("no entry", 0, &[], 0),
+        Case::new("one entry too few", 2, &[(0, 1, 1)], 2),
+        Case::new("too few, and a clash", 2, &[(0, 1, 0)], 2),
+        Case::new("a clash", 2, &[(0, 1, 0)], 3),
+        Case::new("two entries more", 2, &[(2, 1, 1)], 5),
     ];
     show_all(rt, &cases)
 }
@@ -142,7 +142,7 @@ fn show_ring(rt: &HostRuntime, name: &str, set: u8, back: u8, length: usize) -> 
         rows.push((left, set, left + 1))?;
     }
     rows.push((255, back, 0))?;
-    titled(name, 255, &rows, length).show(rt)
+    Case::new(name, 255, &rows, length).show(rt)
 }
 
 // A fixed sequence of numbers that look random.
@@ -187,7 +187,7 @@ fn show_random(rt: &HostRuntime, scenes: usize) -> io::Result<()> {
         let last = random.below(6) as u8;
         let count = random.below(9);
         let rows = random_rows(rt, &mut random, last, count)?;
-        titled("random", last, &rows, usize::from(last) + 1).show(rt)?;
+        Case::new("random", last, &rows, usize::from(last) + 1).show(rt)?;
     }
     Ok(())
 }
@@ -195,7 +195,7 @@ fn show_random(rt: &HostRuntime, scenes: usize) -> io::Result<()> {
 fn main(rt: HostRuntime) -> io::Result<()> {
     show_small(&rt)?;
     show_lists(&rt)?;
-    titled("256 moments, no rows", 255, &[], 256).show(&rt)?;
+    Case::new("256 moments, no rows", 255, &[], 256).show(&rt)?;
     show_ring(&rt, "256 moments rising", 1, 7, 256)?;
     show_ring(&rt, "256 moments falling", 4, 7, 256)?;
     show_ring(&rt, "256 moments in one group", 3, 3, 256)?;

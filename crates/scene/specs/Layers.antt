@@ -37,6 +37,7 @@ added_lawful s n more l few own =
 abbrev pub joined : Scene → Scene → Scene
 joined a b = added a b.moments b.rows
 
+-- lawful scenes that are joined are lawful
 pub joined_lawful : (a b : Scene) → Lawful a → Lawful b → Lawful (joined a b)
 joined_lawful a b l m = added_lawful a b.moments b.rows l m.few m.own
 

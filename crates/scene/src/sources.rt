@@ -36,6 +36,7 @@ pub trait Source {
     // 1 to 256 moments, and at most 8,192 rows, which name moments of the source and have sets from 1 to 7.
     ghost lawful: { (s : Self) → Lawful (scene s) };
 
+    // The rows from the first to the last.
     final fn rows(&self) -> Rows<'_, Self>
         ensures source { result.source.now ≡ self.now }
         ensures start { result.position ≡ 0 }
