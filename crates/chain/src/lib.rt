@@ -1,7 +1,7 @@
 // A source that stores no rows: each moment before the next.
 #![tactic(auto)]
 
-ghost use Rattle.std.specs.Prelude.{◌≡◌, ◌+◌, ◌-◌, ◌≤◌};
+ghost use Rattle.std.specs.Prelude.{◌≡◌, ◌+◌, ◌-◌, ◌<◌, ◌≤◌};
 ghost use Rattle.scene.specs.Checks.{Answers};
 ghost use Rattle.chain.specs.Links.{chained, chained_lawful, chaining};
 
@@ -58,6 +58,14 @@ impl Source for Chain {
     }
 }
 
+// The highest moment of any source. It is lent as a trait object, and what holds of every source is known there too.
+pub fn highest_moment(source: &dyn Source) -> u16
+    ensures last { result + 1 ≡ (scene source.now).moments }
+    ensures byte { result < 256 }
+{
+    source.moments() - 1
+}
+
 #[cfg(test)]
 mod tests {
     use super::*;
@@ -97,6 +105,13 @@ mod tests {
         assert!(rt; out[10..23] == [1, 0, 2, 3, 1, 1, 5, 3, 1, 0, 1, 1, 0]);
         assert_eq!(rt; out[23], 7);
         expect_rows(&rt, &read_table(rt.alloc(), &out[0..23])?, 4, &rows);
+        Ok(())
+    }
+
+    #[test]
+    fn highest_of_four(rt: HostRuntime) -> Result<(), Fail> {
+        let chain = Chain::new(4)?;
+        assert_eq!(rt; highest_moment(&chain), 3);
         Ok(())
     }
 

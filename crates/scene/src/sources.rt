@@ -23,6 +23,10 @@ pub trait Source {
     // The moments and rows that the source stands for.
     ghost scene: { Self → Scene };
 
+    // 1 to 256 moments, and at most 8,192 rows, which name moments of the source and have sets from 1 to 7. It stands
+    // above the methods, so that clauses can name it and it is known of a `&dyn Source` too.
+    ghost lawful: { (s : Self) → Lawful (scene s) };
+
     fn moments(&self) -> u16
         ensures { result ≡ (scene self.now).moments };
 
@@ -32,9 +36,6 @@ pub trait Source {
     // The row at a position counted from 0; none at or past the end.
     fn row(&self, position: usize) -> Option<Row>
         ensures { result ≡ slice_get (scene self.now).rows position };
-
-    // 1 to 256 moments, and at most 8,192 rows, which name moments of the source and have sets from 1 to 7.
-    ghost lawful: { (s : Self) → Lawful (scene s) };
 
     // The rows from the first to the last.
     final fn rows(&self) -> Rows<'_, Self>

@@ -8,4 +8,4 @@ returns g c =
     let e = c.in_ok-reached.ensures in
     let reached = c.in_ok-reached.reached in
     let s = g.S.Source.scene reached.source.now in
-    (e.0, subst (λ v. Tells (reaches reached.closure.matrix.rows) (g.S.Source.scene v).rows) e.1 (tells_again s.moments s.rows (g.met.S.Source.lawful reached.source.now) (reaches reached.closure.matrix.rows) reached.tells))
+    (e.0, subst (λ v. Tells (reaches reached.closure.matrix.rows) (g.S.Source.scene v).rows) e.1 (tells_again s.moments s.rows (g.S.Source.lawful reached.source.now) (reaches reached.closure.matrix.rows) reached.tells))

@@ -14,7 +14,7 @@ loop-leader-smaller g c =
     let p = c.loop-leader.placing in
     let r = p.reached.now in
     let is = ap (λ v. g.S.Source.scene v.source.now) c.loop-leader.invariant.0 in
-    (next_state (g.S.Source.scene r.source.now) _ (g.met.S.Source.lawful r.source.now) is (reaches r.closure.matrix.rows) r.tells (reaches p.back.matrix.rows) p.back_tells
+    (next_state (g.S.Source.scene r.source.now) _ (g.S.Source.lawful r.source.now) is (reaches r.closure.matrix.rows) r.tells (reaches p.back.matrix.rows) p.back_tells
     c.args.entries.now c.loop-leader.entries (holds p.placed) c.loop-leader.places
     c.in-Some.leader c.in-Some.ensures c.place_group.new.entries (holds c.place_group.new.self.placed) _ (c.loop-leader.auto.entries ∙ c.requires)
     c.place_group.ensures.written c.place_group.ensures.marks c.loop-leader.invariant.1).1
@@ -25,7 +25,7 @@ loop-leader-preserved g c =
     let r = p.reached.now in
     let is = ap (λ v. g.S.Source.scene v.source.now) c.loop-leader.invariant.0 in (
       c.place_group.ensures.kept ∙ c.loop-leader.invariant.0,
-      (next_state (g.S.Source.scene r.source.now) _ (g.met.S.Source.lawful r.source.now) is (reaches r.closure.matrix.rows) r.tells (reaches p.back.matrix.rows) p.back_tells
+      (next_state (g.S.Source.scene r.source.now) _ (g.S.Source.lawful r.source.now) is (reaches r.closure.matrix.rows) r.tells (reaches p.back.matrix.rows) p.back_tells
           c.args.entries.now c.loop-leader.entries (holds p.placed) c.loop-leader.places
           c.in-Some.leader c.in-Some.ensures c.place_group.new.entries (holds c.place_group.new.self.placed) _ (c.loop-leader.auto.entries ∙ c.requires)
           c.place_group.ensures.written c.place_group.ensures.marks c.loop-leader.invariant.1).0,
@@ -37,7 +37,7 @@ returns g c =
     let r = p.reached.now in
     let is = ap (λ v. g.S.Source.scene v.source.now) c.loop-leader.invariant.0 in
     record {
-      order = last_state (g.S.Source.scene r.source.now) _ (g.met.S.Source.lawful r.source.now) is (reaches r.closure.matrix.rows) r.tells (reaches p.back.matrix.rows) p.back_tells
+      order = last_state (g.S.Source.scene r.source.now) _ (g.S.Source.lawful r.source.now) is (reaches r.closure.matrix.rows) r.tells (reaches p.back.matrix.rows) p.back_tells
           c.args.entries.now c.loop-leader.entries (holds p.placed) c.loop-leader.places c.in_default.ensures c.loop-leader.invariant.1;
       rest = c.loop-leader.invariant.1.rest;
     }

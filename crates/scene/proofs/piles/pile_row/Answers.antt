@@ -8,4 +8,4 @@ returns-then-position-ge-MOST_ROWS g c = λ more told. pile_past (g.S.Source.sce
 pub returns-in-None : goal.returns-in-None
 returns-in-None g c =
     let s = g.S.Source.scene c.args.below.now in
-    λ more told. c.row.ensures ∙ pile_below s.rows more c.args.position c.args.position (g.met.S.Source.lawful c.args.below.now).short (search rules)
+    λ more told. c.row.ensures ∙ pile_below s.rows more c.args.position c.args.position (g.S.Source.lawful c.args.below.now).short (search rules)

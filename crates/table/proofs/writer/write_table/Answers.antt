@@ -44,5 +44,5 @@ returns g c =
       size = ((counted.0.0, ((λ h. omega (arith, counted.1)), tt)), (sized.1 ∙ ap (λ m. 3 + 4 * m) counted.1, size));
       bytes = exit;
       back = subst (λ bs. Reads bs (found s.moments s.rows)) (sym (ap (take c.in_ok-size.size) exit ∙ take_at (written s.moments s.rows) _ c.in_ok-size.size (sym size)))
-          (reads_back s (g.met.S.Source.lawful c.args.source.now) few);
+          (reads_back s (g.S.Source.lawful c.args.source.now) few);
     }

@@ -11,7 +11,7 @@ pub returns : goal.returns
 returns g c =
     let source = c.args.self.now.source.now in
     let s = g.S.Source.scene source in
-    let law = g.met.S.Source.lawful source in
+    let law = g.S.Source.lawful source in
     let t = reaches c.args.self.now.closure.matrix.rows in
     let any = any_from_yields_List (impossible_by t) c.any.new.self _ c.any.result c.any.ensures.ran (all_rows g.S.Source.scene source (cc) (cc)) (λ row b q k. search rules) in
     subst (λ b. Decides b (SomeImpossible s.rows s.rows)) (sym any) (some_told t s.rows (tells_again s.moments s.rows law t c.args.self.now.tells) s.moments law.few s.rows law.own)

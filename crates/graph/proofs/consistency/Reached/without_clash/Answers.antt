@@ -16,7 +16,7 @@ returns g c =
     let reached = c.of-reached.result in
     let told = c.has_impossible_row.result in
     let s = g.S.Source.scene reached.source.now in
-    let law = g.met.S.Source.lawful reached.source.now in
+    let law = g.S.Source.lawful reached.source.now in
     let is = c.of-reached.ensures in
     rw c.then_some.ensures (unless _ told reached
     (λ e. subst (λ v. Clash (g.S.Source.scene v).rows) is (impossible_clashes s.rows (c.has_impossible_row.ensures.0 e)))

@@ -19,7 +19,7 @@ overflow_cast-result g c =
     let IsFree : ℕ → Type 0 = λ m. Free (reaches self.reached.now.closure.matrix.rows) (reaches self.back.matrix.rows) (holds self.placed) m in
     let told = first_from_Range _ c.find.new.self _ c.find.result IsFree (λ m. IsFree m → ⊥) c.find.ensures.ran (λ m q k. search rules) (λ m q k. search rules) in
     let found = rw c.in_ok-moment.was at told in
-    omega (arith, found.1, c.moments-moments.ensures, (g.met.S.Source.lawful self.reached.now.source.now).few)
+    omega (arith, found.1, c.moments-moments.ensures, (g.S.Source.lawful self.reached.now.source.now).few)
 
 pub returns : goal.returns
 returns g c =

@@ -7,7 +7,7 @@ pub returns-then-position-ge-MOST_ROWS : goal.returns-then-position-ge-MOST_ROWS
 returns-then-position-ge-MOST_ROWS g c =
     let self = c.args.self.now in
     let s = g.S.Source.scene self.below.now in
-    none_past self.marks.now s.rows c.args.position (omega (arith, (g.met.S.Source.lawful self.below.now).short))
+    none_past self.marks.now s.rows c.args.position (omega (arith, (g.S.Source.lawful self.below.now).short))
 
 pub returns-in-Some : goal.returns-in-Some
 returns-in-Some g c =
