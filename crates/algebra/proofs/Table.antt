@@ -1,14 +1,13 @@
 -- The table of the thirteen: its rules, each by one test that is computed over the whole of it.
-use Rattle.std.proofs.Common.{◌≡◌, ◌≢◌, ℕ, ◌<◌, Bool, true, false, not, ◌&&◌, ◌||◌, eqb, List, [], ◌∷◌, get_or, length, Option, Some, None, MatchOption, Bor, sym, refl, ap, ◌∙◌, subst, lit<, arith}
-use Rattle.std.specs.Option.{option_copied}
-use Rattle.std.specs.List.{AllWithin, HoldsAt, ContainsAt as Has, list_any, list_all}
+use Rattle.std.proofs.Common.{◌≡◌, ℕ, ◌<◌, Bool, true, false, not, ◌&&◌, ◌||◌, eqb, List, [], ◌∷◌, get_or, sym, refl, ap, ◌∙◌, lit<}
+use Rattle.std.specs.List.{ContainsAt as Has, list_any, list_all}
 use Rattle.std.proofs.lemmas.Bool.{and_from, eq-eqb, eqb-true, false≢true}
 use Rattle.algebra.specs.declared.points.Relation.{Relation}
 use Rattle.algebra.specs.declared.titles.Pair.{Pair}
 use Rattle.algebra.specs.declared.titles.Pair.TheVariants.{RiseRise, RiseFall, FallRise, FallFall}
 use Rattle.algebra.specs.declared.titles.TitleRelation.{TitleRelation}
 use Rattle.algebra.specs.declared.titles.TitleRelation.TheVariants.{Precedes, PrecededBy, Meets, MetBy, Overlaps, OverlappedBy, During, Contains, Starts, StartedBy, Finishes, FinishedBy, Equals}
-use Rattle.algebra.specs.Titles.{facts, thirteen, pairs, sign, NoSymbol}
+use Rattle.algebra.specs.Titles.{facts, thirteen, pairs, sign}
 use Rattle.algebra.specs.Rules.{same}
 use Rattle.algebra.proofs.Passing.{passes, one_passes, every_from}
 use Rattle.algebra.proofs.Signs.{three, at_each, same_true, same_from, step}
@@ -117,15 +116,3 @@ same_symbol t u h =
     let same : same_bytes (facts t).symbol (facts u).symbol ≡ true = ap (same_bytes (facts t).symbol) (sym h) ∙ bytes_same (facts t).symbol in
     let at : apart t u ≡ true = passes (apart t) thirteen u (in_thirteen u) (passes (λ t. list_all (apart t) thirteen) thirteen t (in_thirteen t) all_apart) in
     same_place t u (implied (same_bytes (facts t).symbol (facts u).symbol) _ at same)
-
--- a search of the thirteen for a symbol finds the relation that has it, or none has
-module _ (bytes : List ℕ) where
-  abbrev pub Is : TitleRelation → Type 0
-  Is t = bytes ≡ (facts t).symbol
-
-  abbrev pub IsNot : TitleRelation → Type 0
-  IsNot t = bytes ≢ (facts t).symbol
-
-  pub found_symbol : (r : Option (Bor TitleRelation)) → MatchOption r (AllWithin IsNot thirteen 0 (length thirteen)) (λ t. Is t.now × (i : ℕ) × (i < length thirteen) × HoldsAt (λ u. u ≡ t.now) thirteen i × AllWithin IsNot thirteen 0 i) → MatchOption (option_copied r) (NoSymbol bytes) Is
-  found_symbol None none = λ t. let h = in_thirteen t in subst IsNot (h.2 Equals) (none h.0 Equals (omega arith) h.1)
-  found_symbol (Some t) is = is.0
