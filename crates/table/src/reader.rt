@@ -77,7 +77,7 @@ fn read_commands(heap: Global, bytes: &[u8], last: u8) -> Result<Stop, ReadError
     let mut place = 2;
     while let Some(command) = Command::first_of(&bytes[place..]) {
         let statement = at_place(place, context.rows_stated(command))?;
-        rows.extend_from_slice(statement.rows())?;
+        statement.add_to(&mut rows)?;
         context.declare(command);
         place += command.size();
     }

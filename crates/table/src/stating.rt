@@ -1,5 +1,5 @@
 // What a command states, once its checks have passed.
-ghost use Rattle.std.specs.Prelude.{◌≡◌, ℕ, false, ◌||◌, slice_index_or};
+ghost use Rattle.std.specs.Prelude.{◌≡◌, ℕ, false, ◌||◌, ◌++◌, is_ok, if◌then◌else◌, slice_index_or};
 ghost use Rattle.scene.specs.Checks.{Answers};
 ghost use Rattle.algebra.specs.Rules.{ruled};
 ghost use Rattle.table.specs.Commands.{declares, has_title, stated, of_rule, of_command};
@@ -10,7 +10,7 @@ use algebra::rules::{ALL_RELATIONS, rows_of};
 use scene::added::check_row;
 use scene::refusals::Refusal;
 use scene::sources::Row;
-use std::slice;
+use std::alloc::AllocError;
 
 // The rows that a command states.
 #[derive(Clone, Copy)]
@@ -20,12 +20,16 @@ pub(crate) enum Statement {
 }
 
 impl Statement {
-    pub(crate) fn rows(&self) -> &[Row]
-        ensures { result.now ≡ rows_in self.now }
+    // Puts the rows behind others. One row is pushed: a slice of one, appended, made reading take two thirds longer.
+    pub(crate) fn add_to(self, rows: &mut Vec<Row>) -> Result<(), AllocError>
+        ensures { rows.new.items ≡ (if is_ok result then rows.old.items ++ rows_in self else rows.old.items) }
     {
         match self {
-            Statement::One(row) => slice::from_ref(row),
-            Statement::Four(rows) => rows,
+            Statement::One(row) => {
+                rows.push(row)?;
+                Ok(())
+            }
+            Statement::Four(four) => rows.extend_from_slice(&four),
         }
     }
 }

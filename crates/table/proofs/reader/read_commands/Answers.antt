@@ -48,10 +48,10 @@ loop-command-preserved c =
     let b = subst (λ bs. Begins bs k) (take_rest bytes l.place) c.in-Some.ensures in
     let a = subst (λ n. Answers (of_command n known k) Good c.rows_stated.result) l.invariant.0 c.rows_stated.ensures in
     let t = told_good l.place (of_command (c.args.last + 1) known k) Good c.rows_stated.result s a c.in_ok-statement.ensures in
-    let rows : vec_items c.extend_from_slice.new.self ≡ vec_items l.rows ++ rows_in s = pushed c.rows.result.now refl c.in_ok-extend_from_slice.was c.extend_from_slice.ensures.items ∙ ap (λ rs. vec_items l.rows ++ rs) c.rows.ensures in (
+    let rows : vec_items c.add_to.new.rows ≡ vec_items l.rows ++ rows_in s = pushed (rows_in s) refl c.in_ok-add_to.was c.add_to.ensures in (
       c.declare.ensures.moments ∙ l.invariant.0,
       l.invariant.1 ++ k ∷ [],
-      subst (λ n. Progress bytes c.args.last (l.place + n) c.declare.new.self.declared (vec_items c.extend_from_slice.new.self) (l.invariant.1 ++ k ∷ [])) (sym c.size-place.ensures)
-          (progress_more bytes c.args.last l.place l.context.declared (vec_items l.rows) l.invariant.1 l.invariant.2 k b c.declare.new.self.declared (vec_items c.extend_from_slice.new.self)
+      subst (λ n. Progress bytes c.args.last (l.place + n) c.declare.new.self.declared (vec_items c.add_to.new.rows) (l.invariant.1 ++ k ∷ [])) (sym c.size-place.ensures)
+          (progress_more bytes c.args.last l.place l.context.declared (vec_items l.rows) l.invariant.1 l.invariant.2 k b c.declare.new.self.declared (vec_items c.add_to.new.rows)
           t.0 c.declare.ensures.declared (rows ∙ ap (λ rs. vec_items l.rows ++ rs) t.1)),
     )
