@@ -54,6 +54,7 @@ pub fn listing<S: Source>(heap: Global, source: &S) -> Result<String, AllocError
 }
 
 // The bytes in lower-case hexadecimal, two digits each.
+#[tactic(auto, using(crate::proofs::Hexed::encoded_hexed))]
 pub fn hex(heap: Global, bytes: &[u8]) -> Result<String, AllocError>
     ensures { IfOk result (λ s. string_bytes s ≡ flat_map hexed bytes.now) }
 {

@@ -13,6 +13,7 @@ use table::writer::write_table;
 const MOST_WRITTEN: usize = 3 + 4 * MOST_WORKING_ROWS;
 
 // The line of a refusal.
+#[tactic(auto, using(crate::proofs::Refused::fault_line))]
 fn text_of_fault(heap: Global, fault: TableFault) -> Result<String, AllocError>
     ensures { IfOk result (λ s. string_bytes s ≡ refused_text fault.refusal fault.place) }
 {
