@@ -1,4 +1,4 @@
-use Rattle.std.proofs.Common.{◌≡◌, length, get_or, Some, None, sym, ap, ◌∙◌, arith, rules}
+use Rattle.std.proofs.Common.{◌≡◌, length, Some, None, sym, ap, ◌∙◌, arith, rules}
 use Rattle.std.proofs.lemmas.Option.{slice_get-get_or, slice_get_within}
 use Rattle.std.specs.List.{slice_get}
 use Rattle.scene.proofs.Pile.{at_most}
@@ -23,5 +23,5 @@ returns c =
     let long : length rows ≡ 4096 = search rules in
     let some : slice_get rows k ≡ Some row = sym c.row_in.ensures ∙ c.in_ok-row.was in
     let below = slice_get_within rows k row some in
-    let same : row ≡ get_or rows k blank = (let h = slice_get-get_or rows k blank below in cc) in
-    ap Some (c.from.ensures ∙ ap seen same) ∙ row_at rows 0 4096 k k (omega arith) (omega arith)
+    let h = slice_get-get_or rows k blank below in
+    ap Some (c.from.ensures ∙ ap seen (search rules)) ∙ row_at rows 0 4096 k k (omega arith) (omega arith)
