@@ -32,12 +32,15 @@ impl Entry {
     }
 }
 
-// Groups that take their places: what each moment reaches, what reaches it, and who has a place.
+// Groups that take their places: what each moment reaches, what reaches it, who has a place, and how many moments there
+// are. The source is asked for that once for all turns, since it may have to count.
 #[derive(Drop)]
 struct Placing<'a, S: Source> {
     reached: &'a Reached<'a, S>,
     back: Closure,
     placed: Moments,
+    moments: u16,
+    ghost counted: { moments ≡ (S.scene reached.now.source.now).moments },
     ghost back_tells: { ∥ Tells (reaches back.matrix.rows) (turned_scene (S.scene reached.now.source.now)).rows ∥₁ },
 }
 
@@ -54,6 +57,7 @@ impl<'a, S: Source> Placing<'a, S> {
             reached,
             back,
             placed: Moments::none(),
+            moments: reached.source.moments(),
         }
     }
 
@@ -76,8 +80,7 @@ impl<'a, S: Source> Placing<'a, S> {
     fn lowest_ready(&self) -> Option<u8>
         ensures { LowestFree (reaches self.now.reached.now.closure.matrix.rows) (reaches self.now.back.matrix.rows) (holds self.now.placed) (S.scene self.now.reached.now.source.now).moments result }
     {
-        let moments = self.reached.source.moments();
-        let moment = (0..moments).find(|m| self.is_free(*m as u8))?;
+        let moment = (0..self.moments).find(|m| self.is_free(*m as u8))?;
         Some(moment as u8)
     }
 

@@ -11,7 +11,7 @@ returns-in_err-moment g c =
     let IsFree : ℕ → Type 0 = λ m. Free (reaches self.reached.now.closure.matrix.rows) (reaches self.back.matrix.rows) (holds self.placed) m in
     let told = first_from_Range _ c.find.new.self _ c.find.result IsFree (λ m. IsFree m → ⊥) c.find.ensures.ran (λ m q k. search rules) (λ m q k. search rules) in
     let found = rw c.in_err-moment.was at told in
-    rw c.from_residual.ensures (λ m h. found m (omega arith) (omega (arith, c.moments-moments.ensures)))
+    rw c.from_residual.ensures (λ m h. found m (omega arith) (omega (arith, self.counted)))
 
 pub overflow_cast-result : goal.overflow_cast-result
 overflow_cast-result g c =
@@ -19,7 +19,7 @@ overflow_cast-result g c =
     let IsFree : ℕ → Type 0 = λ m. Free (reaches self.reached.now.closure.matrix.rows) (reaches self.back.matrix.rows) (holds self.placed) m in
     let told = first_from_Range _ c.find.new.self _ c.find.result IsFree (λ m. IsFree m → ⊥) c.find.ensures.ran (λ m q k. search rules) (λ m q k. search rules) in
     let found = rw c.in_ok-moment.was at told in
-    omega (arith, found.1, c.moments-moments.ensures, (g.S.Source.lawful self.reached.now.source.now).few)
+    omega (arith, found.1, self.counted, (g.S.Source.lawful self.reached.now.source.now).few)
 
 pub returns : goal.returns
 returns g c =
@@ -27,4 +27,4 @@ returns g c =
     let IsFree : ℕ → Type 0 = λ m. Free (reaches self.reached.now.closure.matrix.rows) (reaches self.back.matrix.rows) (holds self.placed) m in
     let told = first_from_Range _ c.find.new.self _ c.find.result IsFree (λ m. IsFree m → ⊥) c.find.ensures.ran (λ m q k. search rules) (λ m q k. search rules) in
     let found = rw c.in_ok-moment.was at told in
-    (omega (arith, found.1, c.moments-moments.ensures), found.2, λ v h. found.3 v (omega arith) h)
+    (omega (arith, found.1, self.counted), found.2, λ v h. found.3 v (omega arith) h)
