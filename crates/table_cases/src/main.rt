@@ -13,19 +13,20 @@ fn show(rt: &HostRuntime, name: &str, bytes: &[u8]) -> io::Result<()> {
     }
 }
 
-// A table of moments up to the last, with a command so many times, and then these bytes.
-fn show_long(
+// A table of moments up to the last, with a command so many times, and then these bytes. The command's length is a part
+// of its type, so that each is copied at once.
+fn show_long<const N: usize>(
     rt: &HostRuntime,
     name: &str,
     last: u8,
     times: usize,
-    command: &[u8],
+    command: [u8; N],
     end: &[u8],
 ) -> io::Result<()> {
     let mut bytes = Vec::new(rt.alloc());
     bytes.extend_from_slice(&[0x10, last])?;
     for _ in 0..times {
-        bytes.extend_from_slice(command)?;
+        bytes.extend_from_slice(&command)?;
     }
     bytes.extend_from_slice(end)?;
     show(rt, name, &bytes)
@@ -146,14 +147,14 @@ fn main(rt: HostRuntime) -> io::Result<()> {
     show_operands(&rt)?;
     show_rules(&rt)?;
     let row = [0x01, 0, 1, 1];
-    show_long(&rt, "4,096 rows", 1, 4096, &row, b"\x00")?;
-    show_long(&rt, "4,097 rows", 1, 4097, &row, b"\x00")?;
+    show_long(&rt, "4,096 rows", 1, 4096, row, b"\x00")?;
+    show_long(&rt, "4,097 rows", 1, 4097, row, b"\x00")?;
     show_long(
         &rt,
         "4,097 rows, then a byte after the end",
         1,
         4097,
-        &row,
+        row,
         b"\x00\x00",
     )?;
     let title = [0x03, 127];
@@ -162,8 +163,8 @@ fn main(rt: HostRuntime) -> io::Result<()> {
         "32,768 bytes, too many rows",
         255,
         16380,
-        &title,
+        title,
         b"\x02\x7f\x00\x01\x7f\x00",
     )?;
-    show_long(&rt, "32,769 bytes", 255, 16383, &title, b"\x00")
+    show_long(&rt, "32,769 bytes", 255, 16383, title, b"\x00")
 }
