@@ -31,7 +31,7 @@ fn set_at(set: u16, pair: Pair) -> u8
     share(Relation::Before) + share(Relation::Together) + share(Relation::After)
 }
 
-// The four sets of a title rule, in the sequence of the pairs. One by one: a map over the pairs took twice as long.
+// The four sets of a title rule, in the sequence of the pairs. One by one: a map over the pairs took nearly twice as long.
 pub fn sets_of(set: u16) -> [u8; 4]
     ensures { result ≡ sign_sets set }
 {

@@ -104,7 +104,7 @@ impl TitleRelation {
     }
 
     // The relation that has this symbol. Of other bytes there is no more to say, so no error type is needed. The table
-    // stands here once more, since a search through the symbols took three to eleven times as long.
+    // stands here once more, since a search through the symbols took up to eleven times as long.
     pub fn of_symbol(bytes: &[u8]) -> Option<TitleRelation>
         ensures { MatchOption result (NoSymbol bytes.now) (λ t. bytes.now ≡ (facts t).symbol) }
     {

@@ -20,7 +20,8 @@ pub(crate) enum Statement {
 }
 
 impl Statement {
-    // Puts the rows behind others. One row is pushed: a slice of one, appended, made reading take two thirds longer.
+    // Puts the rows behind others. One row is pushed: a slice of one, appended, made reading rows take two thirds more
+    // instructions.
     pub(crate) fn add_to(self, rows: &mut Vec<Row>) -> Result<(), AllocError>
         ensures { rows.new.items ≡ (if is_ok result then rows.old.items ++ rows_in self else rows.old.items) }
     {
